@@ -1,0 +1,5 @@
+-- The laws of words that are sets of numbers, for every width.
+pub mod Digits
+pub mod Word
+pub mod Search
+pub mod Packed

@@ -1,0 +1,132 @@
+-- The first number that passes a test and how many do, and the same of a word's bits: what the machine counts are `lowest` and `weight`.
+-- Assumes nothing.
+use mathlib.Core.Path.{_≡_, refl, sym, ap, ap₂, _∙_, subst}
+use mathlib.Core.Bool.{Bool, true, false, cond, false≢true}
+use Prim.Native.Nat.{ℕ, zero, suc, _+_, _*_, _/_, _%_, _^_, _≤_, _<_, zero-le, suc-le-suc}
+use native.Mathlib.Nat.{not-suc-le-zero, le-of-suc-le-suc, zero-lt-suc, mod-lt}
+use native.Mathlib.Omega.{arith}
+use lib.Arith.{lt-one}
+use lib.Count.{ones, ones-step, trailingZeros, under}
+use Rattle.bits.specs.Bit.{bit, digit, first, count, lowest, weight}
+use Rattle.bits.proofs.Digits.{bit-suc, digit-bit}
+use Rattle.bits.proofs.Word.{word-ext, bit-of-zero}
+
+-- ---- `first`
+
+pub first-cong : (p q : ℕ → Bool) (k : ℕ) → ((c : ℕ) → c < k → p c ≡ q c) → first p k ≡ first q k
+unfolding first
+first-cong p q zero e = refl
+first-cong p q (suc k) e =
+    ap₂ (λ (b : Bool) (n : ℕ). cond b zero (suc n)) (e zero (zero-lt-suc k))
+    (first-cong (λ c. p (suc c)) (λ c. q (suc c)) k (λ c h. e (suc c) (suc-le-suc h)))
+
+pub first-le : (p : ℕ → Bool) (k : ℕ) → first p k ≤ k
+unfolding first
+first-le p zero = zero-le
+first-le p (suc k) = go (p zero) (first-le (λ c. p (suc c)) k)
+  where
+    go : (b : Bool) {n : ℕ} → n ≤ k → cond b zero (suc n) ≤ suc k
+    go true h = zero-le
+    go false h = suc-le-suc h
+
+-- it passes the test, where there is one below k
+pub first-holds : (p : ℕ → Bool) (k : ℕ) → first p k < k → p (first p k) ≡ true
+unfolding first
+first-holds p zero h = absurd (not-suc-le-zero h)
+first-holds p (suc k) h = go (p zero) refl h (first-holds (λ c. p (suc c)) k)
+  where
+    go : (b : Bool) → p zero ≡ b → cond b zero (suc (first (λ c. p (suc c)) k)) < suc k
+        → (first (λ c. p (suc c)) k < k → p (suc (first (λ c. p (suc c)) k)) ≡ true)
+        → p (cond b zero (suc (first (λ c. p (suc c)) k))) ≡ true
+    go true e l ih = e
+    go false e l ih = ih (le-of-suc-le-suc l)
+
+-- nothing before it does
+pub first-before : (p : ℕ → Bool) (k c : ℕ) → c < first p k → p c ≡ false
+unfolding first
+first-before p zero c h = absurd (not-suc-le-zero h)
+first-before p (suc k) c h = go (p zero) refl c h (first-before (λ c. p (suc c)) k)
+  where
+    go : (b : Bool) → p zero ≡ b → (c : ℕ) → c < cond b zero (suc (first (λ c. p (suc c)) k))
+        → ((c : ℕ) → c < first (λ c. p (suc c)) k → p (suc c) ≡ false) → p c ≡ false
+    go true e c l ih = absurd (not-suc-le-zero l)
+    go false e zero l ih = e
+    go false e (suc c) l ih = ih c (le-of-suc-le-suc l)
+
+-- so it is the one number of which both hold
+pub first-is : (p : ℕ → Bool) (k c : ℕ) → c < k → p c ≡ true → ((d : ℕ) → d < c → p d ≡ false) → first p k ≡ c
+unfolding first
+first-is p zero c h t b = absurd (not-suc-le-zero h)
+first-is p (suc k) zero h t b = ap (λ (x : Bool). cond x zero (suc (first (λ c. p (suc c)) k))) t
+first-is p (suc k) (suc c) h t b =
+    ap (λ (x : Bool). cond x zero (suc (first (λ c. p (suc c)) k))) (b zero (zero-lt-suc c))
+    ∙ ap suc (first-is (λ c. p (suc c)) k c (le-of-suc-le-suc h) t (λ d l. b (suc d) (suc-le-suc l)))
+
+pub first-none : (p : ℕ → Bool) (k : ℕ) → ((d : ℕ) → d < k → p d ≡ false) → first p k ≡ k
+unfolding first
+first-none p zero b = refl
+first-none p (suc k) b =
+    ap (λ (x : Bool). cond x zero (suc (first (λ c. p (suc c)) k))) (b zero (zero-lt-suc k))
+    ∙ ap suc (first-none (λ c. p (suc c)) k (λ d l. b (suc d) (suc-le-suc l)))
+
+-- one number that passes bounds it
+pub first-at-most : (p : ℕ → Bool) (k c : ℕ) → p c ≡ true → c < k → first p k ≤ c
+first-at-most p k c t h = go (lib.Dec.leb (first p k) c) refl
+  where
+    go : (b : Bool) → lib.Dec.leb (first p k) c ≡ b → first p k ≤ c
+    go true e = borrow.Author.Tests.leb-true (first p k) c e
+    go false e = absurd (false≢true (sym (first-before p k c (borrow.Author.Tests.leb-false (first p k) c e)) ∙ t))
+
+-- ---- `count`
+
+pub count-cong : (p q : ℕ → Bool) (k : ℕ) → ((c : ℕ) → c < k → p c ≡ q c) → count p k ≡ count q k
+unfolding count
+count-cong p q zero e = refl
+count-cong p q (suc k) e =
+    ap₂ (λ (b : Bool) (n : ℕ). digit b + n) (e zero (zero-lt-suc k))
+    (count-cong (λ c. p (suc c)) (λ c. q (suc c)) k (λ c h. e (suc c) (suc-le-suc h)))
+
+-- ---- a word's bits
+
+pub lowest-step : (k m : ℕ) → lowest (suc k) m ≡ cond (bit m 0) zero (suc (lowest k (m / 2)))
+unfolding lowest first
+lowest-step k m = ap (λ (n : ℕ). cond (bit m 0) zero (suc n)) (first-cong (λ c. bit m (suc c)) (bit (m / 2)) k (λ c h. bit-suc m c))
+
+pub weight-step : (k m : ℕ) → weight (suc k) m ≡ digit (bit m 0) + weight k (m / 2)
+unfolding weight count
+weight-step k m = ap (λ (n : ℕ). digit (bit m 0) + n) (count-cong (λ c. bit m (suc c)) (bit (m / 2)) k (λ c h. bit-suc m c))
+
+-- the machine's count of trailing zeros
+pub lowest-trailing : (k m : ℕ) → trailingZeros k m ≡ lowest k m
+unfolding trailingZeros lowest first
+lowest-trailing zero m = refl
+lowest-trailing (suc k) m =
+    ap₂ under (sym (digit-bit m)) (lowest-trailing k (m / 2)) ∙ go (bit m 0) (lowest k (m / 2)) ∙ sym (lowest-step k m)
+  where
+    go : (b : Bool) (n : ℕ) → under (digit b) n ≡ cond b zero (suc n)
+    go true n = refl
+    go false n = refl
+
+-- the machine's count of set bits
+pub weight-ones : (k m : ℕ) → m < 2 ^ k → ones m ≡ weight k m
+unfolding ones weight count
+weight-ones zero m h = ap ones (lt-one h)
+weight-ones (suc k) m h =
+    ones-step m ∙ ap₂ _+_ (sym (digit-bit m)) (weight-ones k (m / 2) (omega arith)) ∙ sym (weight-step k m)
+
+-- a word of k bits that is not 0 has a lowest bit, and it is set
+pub lowest-bit : (k m : ℕ) → lowest k m < k → bit m (lowest k m) ≡ true
+unfolding lowest
+lowest-bit k m h = first-holds (bit m) k h
+
+pub lowest-before : (k m c : ℕ) → c < lowest k m → bit m c ≡ false
+unfolding lowest
+lowest-before k m c h = first-before (bit m) k c h
+
+pub lowest-is : (k m c : ℕ) → c < k → bit m c ≡ true → ((d : ℕ) → d < c → bit m d ≡ false) → lowest k m ≡ c
+unfolding lowest
+lowest-is k m c h t b = first-is (bit m) k c h t b
+
+-- a word of k bits is 0 exactly if none of its bits is set
+pub zero-of-bits : (k m : ℕ) → m < 2 ^ k → ((c : ℕ) → c < k → bit m c ≡ false) → m ≡ 0
+zero-of-bits k m h b = word-ext k m 0 h (lib.Pow.pow-pos k) (λ c l. b c l ∙ sym (bit-of-zero c))
