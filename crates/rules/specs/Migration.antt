@@ -1,0 +1,83 @@
+-- The migration step, and the steps until none applies.
+-- Assumes nothing.
+use mathlib.Core.Bool.{Bool, true, false, cond}
+use mathlib.Core.List.{List, [], _∷_, _++_, map, tail}
+use mathlib.Core.Option.{Option, none, some}
+use Prim.Native.Nat.{ℕ, zero, suc}
+use lib.Dec.{ltb}
+use Rattle.rules.specs.Lists.{below, select, joined, any, best}
+use Rattle.rules.specs.Machine.{Machine, taskOf, prioOf, level, levelOf, allowed, enqueue, dequeue}
+
+-- ---- who moves
+
+-- the tasks that wait, by CPU and then by place in the row
+abbrev pub waiting : Machine → List ℕ
+waiting m = joined (map tail (m .rows))
+
+-- the CPUs that a task may use, lowest-numbered first
+abbrev pub allowedCpus : Machine → ℕ → List ℕ
+allowedCpus m t = select (allowed m t) (below (m .n))
+
+-- CPU c has a level below task t's
+abbrev pub lower : Machine → ℕ → ℕ → Bool
+lower m t c = ltb (level m c) (levelOf (prioOf m t))
+
+-- of a task that waits: some allowed CPU has a level below the task's
+abbrev pub movable : Machine → ℕ → Bool
+movable m t = any (lower m t) (allowedCpus m t)
+
+abbrev pub movables : Machine → List ℕ
+movables m = select (movable m) (waiting m)
+
+-- the movable task of highest priority; among equals the one on the lowest-numbered CPU; among those the earliest in the row
+abbrev pub mover : Machine → Option ℕ
+mover m = best (λ t u. ltb (prioOf m u) (prioOf m t)) (movables m)
+
+-- ---- where to
+
+abbrev pub orZero : Option ℕ → ℕ
+orZero none = 0
+orZero (some c) = c
+
+-- of its allowed CPUs, one of the lowest level; among equals the lowest-numbered
+abbrev pub destination : Machine → ℕ → ℕ
+destination m t = orZero (best (λ c d. ltb (level m c) (level m d)) (allowedCpus m t))
+
+-- ---- the step
+
+-- a migration, and an entry of the log: the mover, the CPU it waited on, its destination
+pub record Move : Type 0 where
+  pub task : ℕ
+  pub origin : ℕ
+  pub target : ℕ
+
+abbrev pub moveOf : Machine → ℕ → Move
+moveOf m t = record { task = t; origin = taskOf m t .cpu; target = destination m t }
+
+abbrev pub nextOf : Machine → Option ℕ → Option Move
+nextOf m none = none
+nextOf m (some t) = some (moveOf m t)
+
+-- the step that applies, if one does
+unfoldable pub next : Machine → Option Move
+next m = nextOf m (mover m)
+
+-- the mover leaves its row and enters the destination's
+abbrev pub migrate : Move → Machine → Machine
+migrate v m = enqueue (v .task) (v .target) (dequeue (v .task) (v .origin) m)
+
+-- ---- all steps
+
+-- the log, and the machine in which the steps end
+pub record Settled : Type 0 where
+  pub log : List Move
+  pub machine : Machine
+
+-- Steps are taken until none applies, at most k. (Never more than N - 1 are there to take.)
+unfoldable pub settle : ℕ → Machine → Settled
+settle zero m = record { log = []; machine = m }
+settle (suc k) m =
+    elim (next m) [
+      | none ↦ record { log = []; machine = m }
+      | some v ↦ let r : Settled = settle k (migrate v m) in record { log = v ∷ r .log; machine = r .machine }
+    ]
