@@ -1,2 +1,5 @@
 -- The laws of the rules.
 pub mod Marked
+pub mod Bools
+pub mod Lists
+pub mod Rows

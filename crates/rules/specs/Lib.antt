@@ -7,3 +7,4 @@ pub mod Refusals
 pub mod Migration
 pub mod Outcome
 pub mod Cases
+pub mod Demand3
