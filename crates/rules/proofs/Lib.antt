@@ -3,3 +3,4 @@ pub mod Marked
 pub mod Bools
 pub mod Lists
 pub mod Rows
+pub mod Apart
