@@ -4,3 +4,5 @@ pub mod Bools
 pub mod Lists
 pub mod Rows
 pub mod Apart
+pub mod Accept
+pub mod Effects
