@@ -6,3 +6,4 @@ pub mod Rows
 pub mod Apart
 pub mod Accept
 pub mod Effects
+pub mod Step

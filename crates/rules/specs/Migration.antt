@@ -73,11 +73,12 @@ pub record Settled : Type 0 where
   pub log : List Move
   pub machine : Machine
 
--- Steps are taken until none applies, at most k. (Never more than N - 1 are there to take.)
+-- no step, or one step and the rest
+abbrev pub onward : Machine → (Move → Settled) → Option Move → Settled
+onward m rest none = record { log = []; machine = m }
+onward m rest (some v) = let r : Settled = rest v in record { log = v ∷ r .log; machine = r .machine }
+
+-- Steps are taken until none applies, at most k. (There are never more than N - 1 to take.)
 unfoldable pub settle : ℕ → Machine → Settled
 settle zero m = record { log = []; machine = m }
-settle (suc k) m =
-    elim (next m) [
-      | none ↦ record { log = []; machine = m }
-      | some v ↦ let r : Settled = settle k (migrate v m) in record { log = v ∷ r .log; machine = r .machine }
-    ]
+settle (suc k) m = onward m (λ v. settle k (migrate v m)) (next m)
