@@ -13,7 +13,6 @@ use Rattle.rules.specs.Machine.{Machine, taskPlaces}
 use Rattle.rules.specs.Events.{Event, Kind, kindOf, byKind, effect, effectOf}
 use Rattle.rules.specs.Events.{add, remove, wake, sleep, set-priority, set-affinity, tick, yield, set-ordinary}
 use Rattle.rules.specs.Refusals.{Check, firstFailing, Passes, checks, refusal, unknownKind}
-use Rattle.rules.specs.Migration.{settle}
 use Rattle.rules.specs.Outcome.{Outcome, outcome, answered, accepted, refused}
 use Rattle.rules.proofs.Bools.{both, neither}
 

@@ -55,9 +55,13 @@ standing-le τ c = go (eqb (τ .state) runnable && eqb (τ .cpu) c)
 pub no-task : (m : Machine) (t : ℕ) → Shape m → taskPlaces ≤ t → taskOf m t ≡ freeTask
 no-task m t s h =
     rw (
-      List·getD-eq-default (m .state) 0 (past (s .state)), List·getD-eq-default (m .policy) 0 (past (s .policy)),
-      List·getD-eq-default (m .prio) 0 (past (s .prio)), List·getD-eq-default (m .cpu) 0 (past (s .cpu)),
-      List·getD-eq-default (m .slice) 0 (past (s .slice)), List·getD-eq-default (m .mask) 0 (past (s .mask)))
+      List·getD-eq-default (m .state) 0 (past (s .state)),
+      List·getD-eq-default (m .policy) 0 (past (s .policy)),
+      List·getD-eq-default (m .prio) 0 (past (s .prio)),
+      List·getD-eq-default (m .cpu) 0 (past (s .cpu)),
+      List·getD-eq-default (m .slice) 0 (past (s .slice)),
+      List·getD-eq-default (m .mask) 0 (past (s .mask)),
+    )
   where
     past : {n : ℕ} → n ≡ taskPlaces → n ≤ t
     past e = subst (λ (x : ℕ). x ≤ t) (sym e) h
@@ -77,9 +81,14 @@ pub record Apart (t : ℕ) (m : Machine) : Type 0 where
 pub apart-idle : (t : ℕ) (m : Machine) → WellFormed m → taskOf m t .state ≢ runnable → Apart t m
 apart-idle t m w n =
     record {
-      shape = w .shape; tasks = λ u h e. w .tasks u h; flags = w .flags;
+      shape = w .shape;
+      tasks = λ u h e. w .tasks u h;
+      flags = w .flags;
       absent = λ c. w .rows t c ∙ standing-idle (taskOf m t) c n;
-      rows = λ u c e. w .rows u c; home = λ u e. w .home u; falling = w .falling }
+      rows = λ u c e. w .rows u c;
+      home = λ u e. w .home u;
+      falling = w .falling;
+    }
 
 pub fit-of : (n : ℕ) (τ : Task) → Sound n τ → τ .state ≢ 0 → Fit n τ
 fit-of n τ (is-free e) h = absurd (h (ap (λ (x : Task). x .state) e))
@@ -117,13 +126,14 @@ apart-dequeue t m w s =
       tasks = λ u h e. w .tasks u h;
       flags = w .flags;
       absent = row-cases m home (delete t (row m home)) (λ d r. occ t r ≡ 0) fits
-        (omega (arith, occ-delete t t (row m home) here, digit-same t t refl, once m t home w))
-        (λ d n. w .rows t d ∙ standing-away (taskOf m t) d (λ e. n (sym e)));
+          (omega (arith, occ-delete t t (row m home) here, digit-same t t refl, once m t home w))
+          (λ d n. w .rows t d ∙ standing-away (taskOf m t) d (λ e. n (sym e)));
       rows = λ u c e. row-cases m home (delete t (row m home)) (λ d r. occ u r ≡ standing (taskOf m u) d) fits
-        (omega (arith, occ-delete t u (row m home) here, digit-other u t e, w .rows u home)) (λ d n. w .rows u d) c;
+          (omega (arith, occ-delete t u (row m home) here, digit-other u t e, w .rows u home)) (λ d n. w .rows u d) c;
       home = λ u e. w .home u;
       falling = row-cases m home (delete t (row m home)) (λ d r. Falling (prioOf m) r) fits
-        (falling-delete (prioOf m) t (row m home) (w .falling home)) (λ d n. w .falling d) }
+          (falling-delete (prioOf m) t (row m home) (w .falling home)) (λ d n. w .falling d);
+    }
   where
     home : ℕ
     home = taskOf m t .cpu
@@ -150,7 +160,8 @@ module _ (t : ℕ) (m : Machine) (p : Apart t m) (a b c d e f : List ℕ) where
         absent = p .absent;
         rows = λ u c n. subst (λ (τ : Task). occ u (row m c) ≡ standing τ c) (sym (same u n)) (p .rows u c n);
         home = λ u n. subst (λ (τ : Task). τ .state ≡ runnable → allows m (τ .mask) (τ .cpu) ≡ true) (sym (same u n)) (p .home u n);
-        falling = λ c. falling-cong (prioOf m) (prioOf other) (row m c) (λ u i. ap (λ (τ : Task). τ .prio) (sym (same u (other-task c u i)))) (p .falling c) }
+        falling = λ c. falling-cong (prioOf m) (prioOf other) (row m c) (λ u i. ap (λ (τ : Task). τ .prio) (sym (same u (other-task c u i)))) (p .falling c);
+      }
     where
       other-task : (c u : ℕ) → In u (row m c) → u ≢ t
       other-task c u i x = let z : occ u (row m c) ≡ 0 = ap (λ (k : ℕ). occ k (row m c)) x ∙ p .absent c in omega arith
@@ -173,8 +184,13 @@ module _ (t : ℕ) (m : Machine) (p : Apart t m) where
   pub rejoin-idle : Sound (m .n) (taskOf m t) → taskOf m t .state ≢ runnable → WellFormed m
   rejoin-idle s n =
       record {
-        shape = p .shape; tasks = λ u h. tasks u h (same? u t); flags = p .flags; rows = λ u c. rows u c (same? u t);
-        home = λ u h. home u h (same? u t); falling = p .falling }
+        shape = p .shape;
+        tasks = λ u h. tasks u h (same? u t);
+        flags = p .flags;
+        rows = λ u c. rows u c (same? u t);
+        home = λ u h. home u h (same? u t);
+        falling = p .falling;
+      }
     where
       tasks : (u : ℕ) → u < taskPlaces → (u ≡ t) ⊎ (u ≢ t) → Sound (m .n) (taskOf m u)
       tasks u h (inl e) = subst (λ (x : ℕ). Sound (m .n) (taskOf m x)) (sym e) s
@@ -238,7 +254,8 @@ module _ (t c : ℕ) (m : Machine) (p : Apart t m) (place : t < taskPlaces) (fit
         flags = p .flags;
         rows = λ u d. rows u d (same? u t);
         home = λ u h. home u h (same? u t);
-        falling = row-cases m c r (λ d q. Falling (prioOf m) q) fits (joins .falling) (λ d n. p .falling d) }
+        falling = row-cases m c r (λ d q. Falling (prioOf m) q) fits (joins .falling) (λ d n. p .falling d);
+      }
     where
       fits : c < length (m .rows)
       fits = subst (λ (x : ℕ). c < x) (sym (p .shape .rows)) small
@@ -252,8 +269,16 @@ module _ (t c : ℕ) (m : Machine) (p : Apart t m) (place : t < taskPlaces) (fit
       new-fit : Fit (m .n) (put Column.cpu c (taskOf m t))
       new-fit =
           record {
-            policy-low = fit .policy-low; policy-high = fit .policy-high; prio-low = fit .prio-low; prio-high = fit .prio-high; cpu = small;
-            slice-low = fit .slice-low; slice-high = fit .slice-high; mask-some = fit .mask-some; mask-fits = fit .mask-fits }
+            policy-low = fit .policy-low;
+            policy-high = fit .policy-high;
+            prio-low = fit .prio-low;
+            prio-high = fit .prio-high;
+            cpu = small;
+            slice-low = fit .slice-low;
+            slice-high = fit .slice-high;
+            mask-some = fit .mask-some;
+            mask-fits = fit .mask-fits;
+          }
 
       tasks : (u : ℕ) → u < taskPlaces → (u ≡ t) ⊎ (u ≢ t) → Sound (m .n) (taskOf entered u)
       tasks u h (inl e) = subst (λ (x : ℕ). Sound (m .n) (taskOf entered x)) (sym e) (rw new (is-runnable runs new-fit))

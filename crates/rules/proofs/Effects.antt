@@ -34,14 +34,24 @@ unfolding tally
 fresh-well-formed n h l =
     record {
       shape = record {
-        some-cpu = h; cpus = l; state = zeros-long; policy = zeros-long; prio = zeros-long; cpu = zeros-long; slice = zeros-long;
-        mask = zeros-long; rows = length-replicate n []; flags = length-replicate n 0 };
+        some-cpu = h;
+        cpus = l;
+        state = zeros-long;
+        policy = zeros-long;
+        prio = zeros-long;
+        cpu = zeros-long;
+        slice = zeros-long;
+        mask = zeros-long;
+        rows = length-replicate n [];
+        flags = length-replicate n 0;
+      };
       tasks = λ t s. is-free (all-free t);
       flags = λ c s. subst (λ (x : ℕ). x ≤ 1) (sym (getD-replicate n c 0 0 s)) zero-le;
       rows = λ t c. subst (λ (r : List ℕ). occ t r ≡ standing (taskOf (fresh n) t) c) (sym (empty n c))
-        (subst (λ (τ : Task). 0 ≡ standing τ c) (sym (all-free t)) refl);
+          (subst (λ (τ : Task). 0 ≡ standing τ c) (sym (all-free t)) refl);
       home = λ t s. absurd (let z : taskOf (fresh n) t .state ≡ 0 = ap (λ (τ : Task). τ .state) (all-free t) in omega arith);
-      falling = λ c. subst (Falling (prioOf (fresh n))) (sym (empty n c)) tt }
+      falling = λ c. subst (Falling (prioOf (fresh n))) (sym (empty n c)) tt;
+    }
   where
     zeros-long : length {A = ℕ} (replicate taskPlaces 0) ≡ taskPlaces
     zeros-long = length-replicate {A = ℕ} taskPlaces 0
@@ -64,26 +74,58 @@ fresh-well-formed n h l =
 fit-state : (n v : ℕ) (τ : Task) → Fit n τ → Fit n (put Column.state v τ)
 fit-state n v τ f =
     record {
-      policy-low = f .policy-low; policy-high = f .policy-high; prio-low = f .prio-low; prio-high = f .prio-high; cpu = f .cpu;
-      slice-low = f .slice-low; slice-high = f .slice-high; mask-some = f .mask-some; mask-fits = f .mask-fits }
+      policy-low = f .policy-low;
+      policy-high = f .policy-high;
+      prio-low = f .prio-low;
+      prio-high = f .prio-high;
+      cpu = f .cpu;
+      slice-low = f .slice-low;
+      slice-high = f .slice-high;
+      mask-some = f .mask-some;
+      mask-fits = f .mask-fits;
+    }
 
 fit-prio : (n v : ℕ) (τ : Task) → Fit n τ → lowestPriority ≤ v → v ≤ highestPriority → Fit n (put Column.prio v τ)
 fit-prio n v τ f low high =
     record {
-      policy-low = f .policy-low; policy-high = f .policy-high; prio-low = low; prio-high = high; cpu = f .cpu;
-      slice-low = f .slice-low; slice-high = f .slice-high; mask-some = f .mask-some; mask-fits = f .mask-fits }
+      policy-low = f .policy-low;
+      policy-high = f .policy-high;
+      prio-low = low;
+      prio-high = high;
+      cpu = f .cpu;
+      slice-low = f .slice-low;
+      slice-high = f .slice-high;
+      mask-some = f .mask-some;
+      mask-fits = f .mask-fits;
+    }
 
 fit-slice : (n v : ℕ) (τ : Task) → Fit n τ → 1 ≤ v → v ≤ fullSlice → Fit n (put Column.slice v τ)
 fit-slice n v τ f low high =
     record {
-      policy-low = f .policy-low; policy-high = f .policy-high; prio-low = f .prio-low; prio-high = f .prio-high; cpu = f .cpu;
-      slice-low = low; slice-high = high; mask-some = f .mask-some; mask-fits = f .mask-fits }
+      policy-low = f .policy-low;
+      policy-high = f .policy-high;
+      prio-low = f .prio-low;
+      prio-high = f .prio-high;
+      cpu = f .cpu;
+      slice-low = low;
+      slice-high = high;
+      mask-some = f .mask-some;
+      mask-fits = f .mask-fits;
+    }
 
 fit-mask : (n v : ℕ) (τ : Task) → Fit n τ → 0 < v → v < 2 ^ n → Fit n (put Column.mask v τ)
 fit-mask n v τ f nonzero small =
     record {
-      policy-low = f .policy-low; policy-high = f .policy-high; prio-low = f .prio-low; prio-high = f .prio-high; cpu = f .cpu;
-      slice-low = f .slice-low; slice-high = f .slice-high; mask-some = nonzero; mask-fits = small }
+      policy-low = f .policy-low;
+      policy-high = f .policy-high;
+      prio-low = f .prio-low;
+      prio-high = f .prio-high;
+      cpu = f .cpu;
+      slice-low = f .slice-low;
+      slice-high = f .slice-high;
+      mask-some = nonzero;
+      mask-fits = small;
+    }
 
 -- another task with the same state is as sound
 sound-with : (n : ℕ) (τ σ : Task) → Sound n τ → τ .state ≢ free → σ .state ≡ τ .state → (Fit n τ → Fit n σ) → Sound n σ
@@ -123,15 +165,28 @@ module _ (t : ℕ) (m : Machine) (w : WellFormed m) (place : t < taskPlaces) whe
     abbrev rest : Machine
     rest =
         record {
-          n = m .n; state = m .state; policy = m .policy; prio = m .prio; cpu = m .cpu; slice = l; mask = k;
-          rows = m .rows; flags = m .flags }
+          n = m .n;
+          state = m .state;
+          policy = m .policy;
+          prio = m .prio;
+          cpu = m .cpu;
+          slice = l;
+          mask = k;
+          rows = m .rows;
+          flags = m .flags;
+        }
 
     keep-rest : Shape rest → ((u : ℕ) → u ≢ t → taskOf rest u ≡ taskOf m u) → Sound (m .n) (taskOf rest t)
         → (taskOf m t .state ≡ runnable → allowed rest t (taskOf m t .cpu) ≡ true) → WellFormed rest
     keep-rest s same sound may =
         record {
-          shape = s; tasks = λ u h. tasks u h (same? u t); flags = w .flags; rows = w .rows; home = λ u h. home u h (same? u t);
-          falling = w .falling }
+          shape = s;
+          tasks = λ u h. tasks u h (same? u t);
+          flags = w .flags;
+          rows = w .rows;
+          home = λ u h. home u h (same? u t);
+          falling = w .falling;
+        }
       where
         tasks : (u : ℕ) → u < taskPlaces → (u ≡ t) ⊎ (u ≢ t) → Sound (m .n) (taskOf rest u)
         tasks u h (inl e) = subst (λ (x : ℕ). Sound (m .n) (taskOf rest x)) (sym e) sound
@@ -323,9 +378,23 @@ module _ (c : ℕ) (m : Machine) (w : WellFormed m) where
   keep-flag b h =
       record {
         shape = record {
-          some-cpu = s .some-cpu; cpus = s .cpus; state = s .state; policy = s .policy; prio = s .prio; cpu = s .cpu; slice = s .slice;
-          mask = s .mask; rows = s .rows; flags = length-set (m .flags) c b ∙ s .flags };
-        tasks = w .tasks; flags = λ d l. one d l (same? d c); rows = w .rows; home = w .home; falling = w .falling }
+          some-cpu = s .some-cpu;
+          cpus = s .cpus;
+          state = s .state;
+          policy = s .policy;
+          prio = s .prio;
+          cpu = s .cpu;
+          slice = s .slice;
+          mask = s .mask;
+          rows = s .rows;
+          flags = length-set (m .flags) c b ∙ s .flags;
+        };
+        tasks = w .tasks;
+        flags = λ d l. one d l (same? d c);
+        rows = w .rows;
+        home = w .home;
+        falling = w .falling;
+      }
     where
       s : Shape m
       s = w .shape
@@ -341,9 +410,16 @@ pub keep-effectOf : (m : Machine) (e : Event) (k : Kind) → WellFormed m → Pa
 keep-effectOf m e add w p =
     idle-write (e .who) m w (in-range taskPlaces (e .who) (p .0)) (added m e) (λ h. omega (arith, is-state (taskOf m (e .who) .state) free (p .1 .0)))
     (is-asleep refl (record {
-      policy-low = policies .0; policy-high = policies .1; prio-low = priorities .0; prio-high = priorities .1;
-      cpu = lowest-good (e .mask) (m .n) (mask .0) (mask .1) .0; slice-low = omega arith; slice-high = omega arith;
-      mask-some = mask .0; mask-fits = mask .1 }))
+      policy-low = policies .0;
+      policy-high = policies .1;
+      prio-low = priorities .0;
+      prio-high = priorities .1;
+      cpu = lowest-good (e .mask) (m .n) (mask .0) (mask .1) .0;
+      slice-low = omega arith;
+      slice-high = omega arith;
+      mask-some = mask .0;
+      mask-fits = mask .1;
+    }))
     (λ h. omega arith)
   where
     policies : (fifo ≤ e .a) × (e .a ≤ rr)

@@ -7,3 +7,5 @@ pub mod Apart
 pub mod Accept
 pub mod Effects
 pub mod Step
+pub mod Runs
+pub mod Demand3

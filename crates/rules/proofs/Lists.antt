@@ -270,9 +270,10 @@ module _ (p : ℕ → ℕ) where
 -- only what stands in the queue matters
 pub falling-cong : (p q : ℕ → ℕ) (r : List ℕ) → ((u : ℕ) → In u r → p u ≡ q u) → Falling p r → Falling q r
 falling-cong p q [] e f = tt
-falling-cong p q (y ∷ ys) e f =
-    (λ u i. let here : p y ≡ q y = e y (in-here y ys) in let there : p u ≡ q u = e u (in-there u y ys i) in omega (arith, f .0 u i),
-    falling-cong p q ys (λ u i. e u (in-there u y ys i)) (f .1))
+falling-cong p q (y ∷ ys) e f = (
+  λ u i. let here : p y ≡ q y = e y (in-here y ys) in let there : p u ≡ q u = e u (in-there u y ys i) in omega (arith, f .0 u i),
+  falling-cong p q ys (λ u i. e u (in-there u y ys i)) (f .1),
+)
 
 -- ---- who is best
 

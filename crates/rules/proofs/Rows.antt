@@ -59,15 +59,24 @@ store-same mask t v m s h = rw (getD-set-same (m .mask) t v 0 (subst (λ (x : �
 pub write-other : (t u : ℕ) (τ : Task) (m : Machine) → u ≢ t → taskOf (write t τ m) u ≡ taskOf m u
 write-other t u τ m n =
     rw (
-      getD-set-other (m .state) t u (τ .state) 0 n, getD-set-other (m .policy) t u (τ .policy) 0 n, getD-set-other (m .prio) t u (τ .prio) 0 n,
-      getD-set-other (m .cpu) t u (τ .cpu) 0 n, getD-set-other (m .slice) t u (τ .slice) 0 n, getD-set-other (m .mask) t u (τ .mask) 0 n)
+      getD-set-other (m .state) t u (τ .state) 0 n,
+      getD-set-other (m .policy) t u (τ .policy) 0 n,
+      getD-set-other (m .prio) t u (τ .prio) 0 n,
+      getD-set-other (m .cpu) t u (τ .cpu) 0 n,
+      getD-set-other (m .slice) t u (τ .slice) 0 n,
+      getD-set-other (m .mask) t u (τ .mask) 0 n,
+    )
 
 pub write-same : (t : ℕ) (τ : Task) (m : Machine) → Shape m → t < taskPlaces → taskOf (write t τ m) t ≡ τ
 write-same t τ m s h =
     rw (
-      getD-set-same (m .state) t (τ .state) 0 (fits (s .state)), getD-set-same (m .policy) t (τ .policy) 0 (fits (s .policy)),
-      getD-set-same (m .prio) t (τ .prio) 0 (fits (s .prio)), getD-set-same (m .cpu) t (τ .cpu) 0 (fits (s .cpu)),
-      getD-set-same (m .slice) t (τ .slice) 0 (fits (s .slice)), getD-set-same (m .mask) t (τ .mask) 0 (fits (s .mask)))
+      getD-set-same (m .state) t (τ .state) 0 (fits (s .state)),
+      getD-set-same (m .policy) t (τ .policy) 0 (fits (s .policy)),
+      getD-set-same (m .prio) t (τ .prio) 0 (fits (s .prio)),
+      getD-set-same (m .cpu) t (τ .cpu) 0 (fits (s .cpu)),
+      getD-set-same (m .slice) t (τ .slice) 0 (fits (s .slice)),
+      getD-set-same (m .mask) t (τ .mask) 0 (fits (s .mask)),
+    )
   where
     fits : {n : ℕ} → n ≡ taskPlaces → t < n
     fits e = subst (λ (x : ℕ). t < x) (sym e) h
@@ -80,7 +89,17 @@ module _ (m : Machine) (s : Shape m) where
       → Shape (record { n = m .n; state = a; policy = b; prio = c; cpu = d; slice = e; mask = f; rows = m .rows; flags = m .flags })
   shape-columns a b c d e f ha hb hc hd he hf =
       record {
-        some-cpu = s .some-cpu; cpus = s .cpus; state = ha; policy = hb; prio = hc; cpu = hd; slice = he; mask = hf; rows = s .rows; flags = s .flags }
+        some-cpu = s .some-cpu;
+        cpus = s .cpus;
+        state = ha;
+        policy = hb;
+        prio = hc;
+        cpu = hd;
+        slice = he;
+        mask = hf;
+        rows = s .rows;
+        flags = s .flags;
+      }
 
   pub shape-store : (k : Column) (t v : ℕ) → Shape (store k t v m)
   shape-store state t v = shape-columns _ _ _ _ _ _ (length-set (m .state) t v ∙ s .state) (s .policy) (s .prio) (s .cpu) (s .slice) (s .mask)
@@ -99,5 +118,14 @@ module _ (m : Machine) (s : Shape m) where
   pub shape-row : (c : ℕ) (r : List ℕ) → Shape (withRow c r m)
   shape-row c r =
       record {
-        some-cpu = s .some-cpu; cpus = s .cpus; state = s .state; policy = s .policy; prio = s .prio; cpu = s .cpu; slice = s .slice;
-        mask = s .mask; rows = length-set (m .rows) c r ∙ s .rows; flags = s .flags }
+        some-cpu = s .some-cpu;
+        cpus = s .cpus;
+        state = s .state;
+        policy = s .policy;
+        prio = s .prio;
+        cpu = s .cpu;
+        slice = s .slice;
+        mask = s .mask;
+        rows = length-set (m .rows) c r ∙ s .rows;
+        flags = s .flags;
+      }

@@ -57,13 +57,18 @@ in-row-of-tail x (y ∷ ys) i = in-there x y ys i
 chosen-of : (m : Machine) → WellFormed m → (t : ℕ) → mover m ≡ some t → Chosen m (moveOf m t)
 chosen-of m w t e =
     record {
-      runs = place .0; origin = refl; waits = subst (λ (c : ℕ). In t (tail (row m c))) (sym (place .1)) (row-of .2);
+      runs = place .0;
+      origin = refl;
+      waits = subst (λ (c : ℕ). In t (tail (row m c))) (sym (place .1)) (row-of .2);
       moves = picked .1;
       highest = λ u i h.
-        best-best (λ x y. ltb (prioOf m y) (prioOf m x)) higher higher-trans higher-won higher-lost higher-self (movables m) t u e
-        (in-select (movable m) u (waiting m) i h);
-      small = target-in .0; may = target-in .1; lowest = λ c h a. lowest c (in-allowed m t c h a);
-      below = strict }
+          best-best (λ x y. ltb (prioOf m y) (prioOf m x)) higher higher-trans higher-won higher-lost higher-self (movables m) t u e
+          (in-select (movable m) u (waiting m) i h);
+      small = target-in .0;
+      may = target-in .1;
+      lowest = λ c h a. lowest c (in-allowed m t c h a);
+      below = strict;
+    }
   where
     higher : ℕ → ℕ → Type 0
     higher x y = prioOf m y ≤ prioOf m x
@@ -210,10 +215,14 @@ module _ (m : Machine) (v : Move) (w : WellFormed m) (k : Chosen m v) where
       go [] e i = absurd (not-in-nil t i)
       go (u ∷ us) e i =
           record {
-            top = u; rest = us; is = e; behind = i;
+            top = u;
+            rest = us;
+            is = e;
+            behind = i;
             other = λ s.
-              let q : occ t (row m (v .origin)) ≡ occ t (u ∷ us) = ap (occ t) e in
-              omega (arith, once m t (v .origin) w, occ-cons t u us, digit-same t u s) }
+                let q : occ t (row m (v .origin)) ≡ occ t (u ∷ us) = ap (occ t) e in
+                omega (arith, once m t (v .origin) w, occ-cons t u us, digit-same t u s);
+          }
 
   pub origin-level : levelOf (prioOf m t) ≤ level m (v .origin)
   origin-level =

@@ -82,3 +82,7 @@ onward m rest (some v) = let r : Settled = rest v in record { log = v ∷ r .log
 unfoldable pub settle : ℕ → Machine → Settled
 settle zero m = record { log = []; machine = m }
 settle (suc k) m = onward m (λ v. settle k (migrate v m)) (next m)
+
+-- until none applies: N is a bound that is never reached
+abbrev pub settled : Machine → Settled
+settled m = settle (m .n) m
