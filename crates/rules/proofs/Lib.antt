@@ -9,3 +9,5 @@ pub mod Effects
 pub mod Step
 pub mod Runs
 pub mod Demand3
+pub mod Room
+pub mod Test
