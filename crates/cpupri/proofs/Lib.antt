@@ -3,3 +3,5 @@ pub mod Table
 pub mod Moved
 pub mod Whole
 pub mod Fresh
+pub mod Words
+pub mod Agrees

@@ -4,10 +4,10 @@ use mathlib.Core.Path.{_≡_}
 use mathlib.Core.Bool.{Bool, true, false, cond, not, _&&_}
 use mathlib.Core.Logic.{_≢_}
 use mathlib.Core.List.{List, [], _∷_}
-use Prim.Native.Nat.{ℕ, suc, _/_, _%_, _≤_, _<_}
+use Prim.Native.Nat.{ℕ, suc, _/_, _%_, _^_, _≤_, _<_}
 use lib.Dec.{eqb, ltb}
-use lib.ListN.{length, getD}
-use Rattle.bits.specs.Bit.{bit}
+use lib.ListN.{length, getD, set}
+use Rattle.bits.specs.Bit.{bit, withBit}
 use Rattle.cpupri.specs.Level.{levelCount, cpuPlaces, unused, invalid}
 use Rattle.cpupri.specs.Record.{countAt, active, masksOf, countsOf, wordsOf}
 use Rattle.cpupri.specs.declared.record.Record.{Record}
@@ -31,14 +31,27 @@ same [] (y ∷ ys) = false
 same (x ∷ xs) [] = false
 same (x ∷ xs) (y ∷ ys) = eqb x y && same xs ys
 
--- the test: the levels fit, and the rest is what they determine
-unfoldable pub consistent : ℕ → Record → Bool
-consistent n r =
-    levelsFit n (r .levels)
-    && (same (r .masks) (masksOf (r .levels))
-    && (same (r .counts) (countsOf (r .levels)) && same (r .words) (wordsOf (countsOf (r .levels)))))
+-- the masks with CPU c in its level's one; a level that has no mask adds nothing
+unfoldable pub joined : List ℕ → ℕ → ℕ → List ℕ
+joined masks c l = cond (ltb l levelCount) (set masks l (withBit (getD masks l 0) c)) masks
 
--- what it means: masks, counts, words and levels say the same, and the levels are those of n CPUs
+-- masks, counts and words are what the levels determine
+unfoldable pub agrees : Record → Bool
+agrees r = same (r .masks) (masksOf (r .levels)) && (same (r .counts) (countsOf (r .levels)) && same (r .words) (wordsOf (countsOf (r .levels))))
+
+unfoldable pub consistent : ℕ → Record → Bool
+consistent n r = levelsFit n (r .levels) && agrees r
+
+-- what the type of a record says of it: the lengths of its arrays, and that masks and words are words of 64 bits
+pub record Sized (r : Record) : Type 0 where
+  pub masks : length (r .masks) ≡ levelCount
+  pub counts : length (r .counts) ≡ levelCount
+  pub words : length (r .words) ≡ 2
+  pub levels : length (r .levels) ≡ cpuPlaces
+  pub mask : (l : ℕ) → getD (r .masks) l 0 < 2 ^ 64
+  pub word : (i : ℕ) → getD (r .words) i 0 < 2 ^ 64
+
+-- what the test means: masks, counts, words and levels say the same, and the levels are those of n CPUs
 pub record Consistent (n : ℕ) (r : Record) : Type 0 where
   -- CPU c is in level l's mask exactly if its level is l
   pub masks : (l c : ℕ) → l < levelCount → c < cpuPlaces → bit (getD (r .masks) l 0) c ≡ eqb (getD (r .levels) c 0) l

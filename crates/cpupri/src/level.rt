@@ -2,7 +2,7 @@
 //
 //   IDLE       0         nothing to run
 //   ORDINARY   1         ordinary work only
-//              2         never used
+//   UNUSED     2         never used
 //              3..=101   a real-time task of priority level - 2, 1..=99
 //   INVALID    255       no CPU to place tasks on
 ghost use mathlib.Core.Path.{_≡_};
@@ -18,6 +18,7 @@ impl Level {
 
     pub const ORDINARY: Level = Level { number: 1 };
 
+    pub const UNUSED: Level = Level { number: 2 };
     pub const INVALID: Level = Level { number: 255 };
 
     // The level of a CPU that runs a real-time task of this priority.
