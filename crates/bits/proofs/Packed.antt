@@ -39,7 +39,7 @@ module _ {A : Type 0} (p : A → Bool) where
   packed-snoc [] x = sym (put-zero (p x) 0)
   packed-snoc (y ∷ xs) x =
       ap₂ (λ (b : Bool) (n : ℕ). digit b + 2 * n) (sym (bit-low (p y) (packed p xs)))
-        (packed-snoc xs x ∙ ap (λ (n : ℕ). putBit (p x) n (length xs)) (sym (rest (p y) (packed p xs))))
+      (packed-snoc xs x ∙ ap (λ (n : ℕ). putBit (p x) n (length xs)) (sym (rest (p y) (packed p xs))))
       ∙ sym (put-suc (p x) (digit (p y) + 2 * packed p xs) (length xs))
 
   -- one element changed: its bit is put as the new element says, and nothing else moves

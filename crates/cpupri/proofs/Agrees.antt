@@ -1,7 +1,7 @@
 -- What the consistency test means: it passes exactly if masks, counts, words and levels say the same and the levels are those of n CPUs.
 -- Assumes nothing.
 use mathlib.Core.Path.{_≡_, refl, sym, ap, ap₂, _∙_, subst}
-use mathlib.Core.Bool.{Bool, true, false, cond, not, _&&_, false≢true, true≢false}
+use mathlib.Core.Bool.{Bool, true, false, cond, not, _&&_, Bool·beq, false≢true}
 use mathlib.Core.Logic.{_≢_, _↔_}
 use mathlib.Core.List.{List, [], _∷_, _++_}
 use Prim.Native.Nat.{ℕ, zero, suc, _+_, _-_, _/_, _%_, _^_, _≤_, _<_, suc-le-suc}
@@ -22,7 +22,7 @@ use Rattle.cpupri.specs.declared.record.Record.{Record}
 use Rattle.cpupri.proofs.Table.{getD-table, table-cong, table-set}
 use Rattle.cpupri.proofs.Moved.{length-masks, length-counts, mask-at, count-at}
 use Rattle.cpupri.proofs.Whole.{record-ext, level-known}
-use Rattle.cpupri.proofs.Words.{words-bit, words-ext}
+use Rattle.cpupri.proofs.Words.{words-bit, words-ext, word-one-lt}
 
 -- ---- `same`
 
@@ -99,8 +99,7 @@ fit-all n ls h = from-fit n 0 ls (λ i hi. ap (λ (k : ℕ). levelFits n k (getD
 pub fits-below : (n c l : ℕ) → c < n → levelFits n c l ≡ true → (l < levelCount) × (l ≢ unused)
 unfolding levelFits
 fits-below n c l h e =
-    let e′ : (ltb l levelCount && not (eqb l unused)) ≡ true = ap (λ (b : Bool). cond b (ltb l levelCount && not (eqb l unused)) (eqb l invalid)) (sym (lt-ltb c n h)) ∙ e in
-    (
+    let e′ : (ltb l levelCount && not (eqb l unused)) ≡ true = ap (λ (b : Bool). cond b (ltb l levelCount && not (eqb l unused)) (eqb l invalid)) (sym (lt-ltb c n h)) ∙ e in (
       ltb-true l levelCount (and-left (ltb l levelCount) (not (eqb l unused)) e′),
       eqb-false l unused (not-true (eqb l unused) (and-right (ltb l levelCount) (not (eqb l unused)) e′)),
     )
@@ -146,7 +145,7 @@ masks-snoc xs l = go (ltb l levelCount) refl
         let h : l < levelCount = ltb-true l levelCount e in
         table-set (maskAt xs) (maskAt (xs ++ (l ∷ []))) levelCount l h (λ k hk d. snoc-kept xs l k (λ e. d (sym e)))
         ∙ ap (set (masksOf xs) l)
-          (packed-snoc (λ (x : ℕ). eqb x l) xs l ∙ ap₂ (λ (b : Bool) (m : ℕ). putBit b m (length xs)) (eq-eqb l l refl) (sym (mask-at xs l h)))
+        (packed-snoc (λ (x : ℕ). eqb x l) xs l ∙ ap₂ (λ (b : Bool) (m : ℕ). putBit b m (length xs)) (eq-eqb l l refl) (sym (mask-at xs l h)))
     go false e =
         let h : levelCount ≤ l = ltb-false l levelCount e in
         table-cong (maskAt xs) (maskAt (xs ++ (l ∷ []))) levelCount (λ k hk. snoc-kept xs l k (λ e. omega arith))
@@ -185,15 +184,18 @@ module _ (n : ℕ) (r : Record) (sized : Sized r) where
     words = λ l hl. word-bit l (omega arith);
     clear = λ l hl h. word-bit l h ∙ past (r .counts) l (sized .counts) hl;
     below = λ c h hc. fits-below n c (getD (r .levels) c 0) h (fit-at n (r .levels) fit c (place c hc));
-    above = λ c h hc. fits-above n c (getD (r .levels) c 0) h (fit-at n (r .levels) fit c (place c hc))
+    above = λ c h hc. fits-above n c (getD (r .levels) c 0) h (fit-at n (r .levels) fit c (place c hc));
   }
     where
       fit : levelsFit n (r .levels) ≡ true
       fit = and-left (levelsFit n (r .levels)) (agrees r) e
+
       ok : agrees r ≡ true
       ok = and-right (levelsFit n (r .levels)) (agrees r) e
+
       place : (c : ℕ) → c < cpuPlaces → c < length (r .levels)
       place c h = omega (arith, sized .levels)
+
       word-bit : (l : ℕ) → l < 128 → bit (getD (r .words) (l / 64) 0) (l % 64) ≡ active (getD (r .counts) l 0)
       word-bit l h =
           ap (λ (ws : List ℕ). bit (getD ws (l / 64) 0) (l % 64)) (agrees-words r ok ∙ ap wordsOf (sym (agrees-counts r ok)))
@@ -209,25 +211,108 @@ module _ (n : ℕ) (r : Record) (sized : Sized r) where
         where
           hc : c < cpuPlaces
           hc = omega (arith, sized .levels)
+
           go : (b : Bool) → ltb c n ≡ b → levelFits n c (getD (r .levels) c 0) ≡ true
           go true e = let l : c < n = ltb-true c n e in below-fits n c (getD (r .levels) c 0) l (k .below c l hc .0) (k .below c l hc .1)
           go false e = let l : n ≤ c = ltb-false c n e in above-fits n c (getD (r .levels) c 0) l (k .above c l hc)
+
       masks : r .masks ≡ masksOf (r .levels)
       masks = ext-getD 0 (r .masks) (masksOf (r .levels)) (sized .masks ∙ sym (length-masks (r .levels))) (λ l h.
           let hl : l < levelCount = omega (arith, sized .masks) in
           word-ext 64 (getD (r .masks) l 0) (maskAt (r .levels) l) (sized .mask l) (mask-lt (r .levels) l (sized .levels))
-            (λ c hc. k .masks l c hl hc ∙ sym (mask-bit (r .levels) l c (omega (arith, sized .levels))))
+          (λ c hc. k .masks l c hl hc ∙ sym (mask-bit (r .levels) l c (omega (arith, sized .levels))))
           ∙ sym (mask-at (r .levels) l hl))
+
       counts : r .counts ≡ countsOf (r .levels)
       counts = ext-getD 0 (r .counts) (countsOf (r .levels)) (sized .counts ∙ sym (length-counts (r .levels))) (λ l h.
           let hl : l < levelCount = omega (arith, sized .counts) in
           k .counts l hl ∙ sym (count-at (r .levels) l hl))
+
       bits : (l : ℕ) → l < 128 → bit (getD (r .words) (l / 64) 0) (l % 64) ≡ active (getD (r .counts) l 0)
       bits l h = go (ltb l levelCount) refl
         where
           go : (b : Bool) → ltb l levelCount ≡ b → bit (getD (r .words) (l / 64) 0) (l % 64) ≡ active (getD (r .counts) l 0)
           go true e = k .words l (ltb-true l levelCount e)
           go false e = let hl : levelCount ≤ l = ltb-false l levelCount e in k .clear l hl h ∙ sym (past (r .counts) l (sized .counts) hl)
+
+      words : r .words ≡ wordsOf (countsOf (r .levels))
+      words = words-ext (r .counts) (r .words) (sized .words) (sized .counts) (sized .word 0) (sized .word 1) bits ∙ ap wordsOf counts
+
+-- ---- the test as the code takes it, a level at a time
+
+abbrev pub levelTest : Record → List ℕ → ℕ → Bool
+levelTest r masks l =
+    eqb (getD (r .masks) l 0) (getD masks l 0)
+    && (eqb (getD (r .counts) l 0) (weight 64 (getD (r .masks) l 0)) && Bool·beq (bit (getD (r .words) (l / 64) 0) (l % 64)) (active (getD (r .counts) l 0)))
+
+beq-true : (a b : Bool) → Bool·beq a b ≡ true → a ≡ b
+beq-true true true e = refl
+beq-true true false e = absurd (false≢true e)
+beq-true false true e = absurd (false≢true e)
+beq-true false false e = refl
+
+beq-refl : (a : Bool) → Bool·beq a a ≡ true
+beq-refl true = refl
+beq-refl false = refl
+
+module _ (r : Record) (sized : Sized r) where
+  -- where the parts agree each level's test passes, and no bit is set past the last level
+  pub test-passes : agrees r ≡ true → (l : ℕ) → l < levelCount → levelTest r (masksOf (r .levels)) l ≡ true
+  test-passes ok l h =
+      and-both _ _ (eq-eqb _ _ mask)
+      (and-both _ _
+      (eq-eqb _ _ (ap (λ (cs : List ℕ). getD cs l 0) (agrees-counts r ok) ∙ count-at (r .levels) l h ∙ sym (weight-mask (r .levels) l (sized .levels)) ∙ ap (weight 64) (sym (mask ∙ mask-at (r .levels) l h))))
+      (ap (λ (b : Bool). Bool·beq b (active (getD (r .counts) l 0))) word ∙ beq-refl (active (getD (r .counts) l 0))))
+    where
+      mask : getD (r .masks) l 0 ≡ getD (masksOf (r .levels)) l 0
+      mask = ap (λ (ms : List ℕ). getD ms l 0) (agrees-masks r ok)
+
+      word : bit (getD (r .words) (l / 64) 0) (l % 64) ≡ active (getD (r .counts) l 0)
+      word =
+          ap (λ (ws : List ℕ). bit (getD ws (l / 64) 0) (l % 64)) (agrees-words r ok ∙ ap wordsOf (sym (agrees-counts r ok)))
+          ∙ words-bit (r .counts) l (omega arith)
+
+  pub top-clear : agrees r ≡ true → getD (r .words) 1 0 < 2 ^ 38
+  top-clear ok =
+      subst (λ (ws : List ℕ). getD ws 1 0 < 2 ^ 38) (ap wordsOf (agrees-counts r ok) ∙ sym (agrees-words r ok))
+      (word-one-lt (r .counts) (sized .counts))
+
+  -- and the other way round
+  pub tests-agree : ((l : ℕ) → l < levelCount → levelTest r (masksOf (r .levels)) l ≡ true) → getD (r .words) 1 0 < 2 ^ 38 → agrees r ≡ true
+  tests-agree tests top = agrees-of r masks counts words
+    where
+      mask-test : (l : ℕ) → Bool
+      mask-test l = eqb (getD (r .masks) l 0) (getD (masksOf (r .levels)) l 0)
+
+      count-test : (l : ℕ) → Bool
+      count-test l = eqb (getD (r .counts) l 0) (weight 64 (getD (r .masks) l 0))
+
+      word-test : (l : ℕ) → Bool
+      word-test l = Bool·beq (bit (getD (r .words) (l / 64) 0) (l % 64)) (active (getD (r .counts) l 0))
+
+      mask : (l : ℕ) → l < levelCount → getD (r .masks) l 0 ≡ getD (masksOf (r .levels)) l 0
+      mask l h = eqb-true _ _ (and-left (mask-test l) (count-test l && word-test l) (tests l h))
+
+      masks : r .masks ≡ masksOf (r .levels)
+      masks = ext-getD 0 (r .masks) (masksOf (r .levels)) (sized .masks ∙ sym (length-masks (r .levels))) (λ l h. mask l (omega (arith, sized .masks)))
+
+      counts : r .counts ≡ countsOf (r .levels)
+      counts = ext-getD 0 (r .counts) (countsOf (r .levels)) (sized .counts ∙ sym (length-counts (r .levels))) (λ l h.
+          let hl : l < levelCount = omega (arith, sized .counts) in
+          eqb-true _ _ (and-left (count-test l) (word-test l) (and-right (mask-test l) (count-test l && word-test l) (tests l hl)))
+          ∙ ap (weight 64) (mask l hl ∙ mask-at (r .levels) l hl) ∙ weight-mask (r .levels) l (sized .levels) ∙ sym (count-at (r .levels) l hl))
+
+      bits : (l : ℕ) → l < 128 → bit (getD (r .words) (l / 64) 0) (l % 64) ≡ active (getD (r .counts) l 0)
+      bits l h = go (ltb l levelCount) refl
+        where
+          go : (b : Bool) → ltb l levelCount ≡ b → bit (getD (r .words) (l / 64) 0) (l % 64) ≡ active (getD (r .counts) l 0)
+          go true e = beq-true _ _ (and-right (count-test l) (word-test l) (and-right (mask-test l) (count-test l && word-test l) (tests l (ltb-true l levelCount e))))
+          go false e =
+              let hl : levelCount ≤ l = ltb-false l levelCount e in
+              let quotient : l / 64 ≡ 1 = omega arith in
+              ap (λ (q : ℕ). bit (getD (r .words) q 0) (l % 64)) quotient
+              ∙ bit-above 38 (getD (r .words) 1 0) (l % 64) top (omega arith) ∙ sym (past (r .counts) l (sized .counts) hl)
+
       words : r .words ≡ wordsOf (countsOf (r .levels))
       words = words-ext (r .counts) (r .words) (sized .words) (sized .counts) (sized .word 0) (sized .word 1) bits ∙ ap wordsOf counts
 
@@ -237,10 +322,11 @@ unfolding consistent recordOf
 consistent-whole n r len e = record {
   same = record-ext r (recordOf (r .levels)) (agrees-masks r ok) (agrees-counts r ok) (agrees-words r ok) refl;
   places = len;
-  each = λ c h. fits-known n c (getD (r .levels) c 0) (fit-at n (r .levels) fit c (omega arith))
+  each = λ c h. fits-known n c (getD (r .levels) c 0) (fit-at n (r .levels) fit c (omega arith));
 }
   where
     fit : levelsFit n (r .levels) ≡ true
     fit = and-left (levelsFit n (r .levels)) (agrees r) e
+
     ok : agrees r ≡ true
     ok = and-right (levelsFit n (r .levels)) (agrees r) e

@@ -73,6 +73,7 @@ module _ (cs : List ℕ) where
           let at : bit (getD (v ∷ w ∷ []) (c / 64) 0) (c % 64) ≡ active (getD cs c 0) = b c (omega arith) in
           let here : bit v c ≡ active (getD cs c 0) = subst (λ (i : ℕ). bit v i ≡ active (getD cs c 0)) remainder (subst (λ (q : ℕ). bit (getD (v ∷ w ∷ []) q 0) (c % 64) ≡ active (getD cs c 0)) quotient at) in
           here ∙ sym (low-bit c h))
+
       high : w ≡ packed active (drop 64 cs)
       high =
           word-ext 64 w (packed active (drop 64 cs)) h1 (lt-of-lt-of-le (high-lt len) (pow-mono {i = 38} {j = 64} (omega arith))) (λ c h.

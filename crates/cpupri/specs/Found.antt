@@ -58,8 +58,8 @@ unfoldable pub lowestLevel : List ℕ → ℕ → ℕ → ℕ
 lowestLevel masks level mask = first (anyAt masks mask) level
 
 -- and those CPUs; none exactly if there is no such level
-unfoldable pub search : List ℕ → ℕ → ℕ → Answer
-search masks level mask =
+unfoldable pub lowestCpus : List ℕ → ℕ → ℕ → Answer
+lowestCpus masks level mask =
     let l = lowestLevel masks level mask in
     cond (ltb l level) (record { number = 0; level = l; mask = allowedAt masks mask l }) (without 0)
 
@@ -78,4 +78,4 @@ unless zero a = a
 unless (suc k) a = without (suc k)
 
 unfoldable pub found : ℕ → Record → ℕ → ℕ → Answer
-found n r level mask = unless (refusal (findChecks n r level mask)) (search (r .masks) level mask)
+found n r level mask = unless (refusal (findChecks n r level mask)) (lowestCpus (r .masks) level mask)

@@ -82,7 +82,13 @@ fn parts_agree(r: Record, masks: [u64; LEVELS]) -> bool
     let mut level = 0;
     while level < LEVELS {
         let word = r.words[level / 64];
-        if !level_agrees(masks[level], r.masks[level], r.counts[level], word, level % 64) {
+        if !level_agrees(
+            masks[level],
+            r.masks[level],
+            r.counts[level],
+            word,
+            level % 64,
+        ) {
             return false;
         }
         level += 1;

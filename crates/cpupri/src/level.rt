@@ -19,6 +19,7 @@ impl Level {
     pub const ORDINARY: Level = Level { number: 1 };
 
     pub const UNUSED: Level = Level { number: 2 };
+
     pub const INVALID: Level = Level { number: 255 };
 
     // The level of a CPU that runs a real-time task of this priority.
