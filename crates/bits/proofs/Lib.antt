@@ -3,3 +3,4 @@ pub mod Digits
 pub mod Word
 pub mod Search
 pub mod Packed
+pub mod Tests

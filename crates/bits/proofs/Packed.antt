@@ -3,13 +3,14 @@
 -- Assumes nothing.
 use mathlib.Core.Path.{_≡_, refl, sym, ap, ap₂, _∙_, subst}
 use mathlib.Core.Bool.{Bool, true, false, cond}
-use mathlib.Core.List.{List, [], _∷_}
+use mathlib.Core.List.{List, [], _∷_, _++_}
 use Prim.Native.Nat.{ℕ, zero, suc, _+_, _*_, _/_, _%_, _^_, _≤_, _<_, zero-le}
 use native.Mathlib.Nat.{not-suc-le-zero, le-of-suc-le-suc, zero-lt-suc, pow-succ'}
 use native.Mathlib.Omega.{arith}
 use lib.ListN.{length, getD, set}
 use Rattle.bits.specs.Bit.{bit, withBit, withoutBit, putBit, digit, weight, tally, packed, count}
 use Rattle.bits.proofs.Digits.{digit-lt, bit-low, bit-rest, put-zero, put-suc, rest}
+use Rattle.bits.proofs.Word.{bit-of-zero}
 use Rattle.bits.proofs.Search.{weight-step}
 
 module _ {A : Type 0} (p : A → Bool) where
@@ -24,6 +25,22 @@ module _ {A : Type 0} (p : A → Bool) where
   bit-packed d [] i h = absurd (not-suc-le-zero h)
   bit-packed d (x ∷ xs) zero h = bit-low (p x) (packed p xs)
   bit-packed d (x ∷ xs) (suc i) h = bit-rest (p x) (packed p xs) i ∙ bit-packed d xs i (le-of-suc-le-suc h)
+
+  -- the same at every place, where the default does not pass
+  pub bit-packed-any : (d : A) → p d ≡ false → (xs : List A) (i : ℕ) → bit (packed p xs) i ≡ p (getD xs i d)
+  unfolding packed
+  bit-packed-any d out [] i = bit-of-zero i ∙ sym out
+  bit-packed-any d out (x ∷ xs) zero = bit-low (p x) (packed p xs)
+  bit-packed-any d out (x ∷ xs) (suc i) = bit-rest (p x) (packed p xs) i ∙ bit-packed-any d out xs i
+
+  -- one element more at the end: the next bit is put as it says
+  pub packed-snoc : (xs : List A) (x : A) → packed p (xs ++ (x ∷ [])) ≡ putBit (p x) (packed p xs) (length xs)
+  unfolding packed
+  packed-snoc [] x = sym (put-zero (p x) 0)
+  packed-snoc (y ∷ xs) x =
+      ap₂ (λ (b : Bool) (n : ℕ). digit b + 2 * n) (sym (bit-low (p y) (packed p xs)))
+      (packed-snoc xs x ∙ ap (λ (n : ℕ). putBit (p x) n (length xs)) (sym (rest (p y) (packed p xs))))
+      ∙ sym (put-suc (p x) (digit (p y) + 2 * packed p xs) (length xs))
 
   -- one element changed: its bit is put as the new element says, and nothing else moves
   pub packed-set : (xs : List A) (i : ℕ) (v : A) → i < length xs → packed p (set xs i v) ≡ putBit (p v) (packed p xs) i

@@ -27,6 +27,12 @@ bit-put-other b m (suc c) (suc d) h =
     ap (λ (x : ℕ). bit x (suc d)) (put-suc b m c) ∙ bit-rest (bit m 0) (putBit b (m / 2) c) d
     ∙ bit-put-other b (m / 2) c d (λ e. h (ap suc e)) ∙ sym (bit-suc m d)
 
+-- a bit that stands as it is put changes nothing
+pub put-same : (b : Bool) (m c : ℕ) → bit m c ≡ b → putBit b m c ≡ m
+unfolding withBit withoutBit
+put-same true m c e = ap (λ (t : Bool). cond t m (m + 2 ^ c)) e
+put-same false m c e = ap (λ (t : Bool). cond t (m - 2 ^ c) m) e
+
 -- a word of k bits stays one
 half-lt : (k m : ℕ) → m < 2 ^ suc k → m / 2 < 2 ^ k
 half-lt k m h = omega arith

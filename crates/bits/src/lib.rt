@@ -2,7 +2,7 @@
 // lowest set bit, and how many are set. Each function is one or two instructions.
 ghost use mathlib.Core.Path.{_≡_};
 ghost use Prim.Native.Nat.{_<_};
-ghost use Rattle.bits.specs.Bit.{bit, withBit, withoutBit, lowest, weight};
+ghost use Rattle.bits.specs.Bit.{bit, withBit, withoutBit, putBit, lowest, weight};
 
 // Whether bit c of m is set.
 pub fn test_bit(m: u64, c: usize) -> bool
@@ -26,6 +26,14 @@ pub fn clear_bit(m: u64, c: usize) -> u64
     ensures { λ r. ⌜ r ≡ withoutBit m c ⌝ }
 {
     m & !(1 << c)
+}
+
+// m with bit c set if `on`, and clear if not.
+pub fn put_bit(m: u64, c: usize, on: bool) -> u64
+    requires { ⌜ c < 64 ⌝ }
+    ensures { λ r. ⌜ r ≡ putBit on m c ⌝ }
+{
+    if on { set_bit(m, c) } else { clear_bit(m, c) }
 }
 
 // The lowest set bit of m; 64 for 0.

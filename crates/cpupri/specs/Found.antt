@@ -1,0 +1,81 @@
+-- The public finder, the lowest-priority search: which CPUs of a mask run at the lowest level below a given one.
+-- Assumes nothing.
+use mathlib.Core.Bool.{Bool, cond, not, _&&_}
+use mathlib.Core.List.{List, [], _∷_}
+use Prim.Native.Nat.{ℕ, zero, suc, _^_}
+use lib.Bits.{bitAnd}
+use lib.Dec.{eqb, ltb, leb}
+use lib.ListN.{getD}
+use Rattle.bits.specs.Bit.{first}
+use Rattle.cpupri.specs.Level.{levelCount, cpuPlaces, invalid}
+use Rattle.cpupri.specs.Consistent.{consistent}
+use Rattle.cpupri.specs.declared.find.Found.{Found}
+use Rattle.cpupri.specs.declared.find.Found.the-variants.{Cpus, Nothing, Refused}
+use Rattle.cpupri.specs.declared.record.Record.{Record}
+
+-- One check of an entry: whether it fails, and the number of the refusal then.
+pub record Check : Type 0 where
+  pub fails : Bool
+  pub number : ℕ
+
+-- the number of the first check that fails; 0 if none does
+unfoldable pub refusal : List Check → ℕ
+refusal [] = 0
+refusal (c ∷ cs) = cond (c .fails) (c .number) (refusal cs)
+
+-- 1 to 64 CPUs
+unfoldable pub sizeFits : ℕ → Bool
+sizeFits n = ltb 0 n && leb n cpuPlaces
+
+-- an affinity mask of n CPUs: not 0, and no bit at n or above
+unfoldable pub maskFits : ℕ → ℕ → Bool
+maskFits n mask = ltb 0 mask && ltb mask (2 ^ n)
+
+-- The finder's answer as the paper has it: a number, a level and a mask.
+pub record Answer : Type 0 where
+  pub number : ℕ
+  pub level : ℕ
+  pub mask : ℕ
+
+-- no such level is 0 with 255 and 0, and a refusal its number with the same
+abbrev pub without : ℕ → Answer
+without number = record { number = number; level = invalid; mask = 0 }
+
+abbrev pub answerOf : Found → Answer
+answerOf (Cpus level mask) = record { number = 0; level = level; mask = mask }
+answerOf Nothing = without 0
+answerOf (Refused number) = without number
+
+-- the CPUs of a mask that are at level l
+unfoldable pub allowedAt : List ℕ → ℕ → ℕ → ℕ
+allowedAt masks mask l = bitAnd (getD masks l 0) mask
+
+unfoldable pub anyAt : List ℕ → ℕ → ℕ → Bool
+anyAt masks mask l = not (eqb (allowedAt masks mask l) 0)
+
+-- the lowest level below the asked one that has an allowed CPU
+unfoldable pub lowestLevel : List ℕ → ℕ → ℕ → ℕ
+lowestLevel masks level mask = first (anyAt masks mask) level
+
+-- and those CPUs; none exactly if there is no such level
+unfoldable pub lowestCpus : List ℕ → ℕ → ℕ → Answer
+lowestCpus masks level mask =
+    let l = lowestLevel masks level mask in
+    cond (ltb l level) (record { number = 0; level = l; mask = allowedAt masks mask l }) (without 0)
+
+-- what the finder refuses, in the paper's order
+unfoldable pub findChecks : ℕ → Record → ℕ → ℕ → List Check
+findChecks n r level mask =
+    record { fails = not (sizeFits n); number = 1 }
+    ∷ record { fails = not (consistent n r); number = 2 }
+    ∷ record { fails = leb levelCount level; number = 7 }
+    ∷ record { fails = not (maskFits n mask); number = 8 }
+    ∷ []
+
+-- a number other than 0 is a refusal
+abbrev pub unless : ℕ → Answer → Answer
+unless zero a = a
+unless (suc k) a = without (suc k)
+
+unfoldable pub found : ℕ → Record → ℕ → ℕ → Answer
+found n r level mask = unless (refusal (findChecks n r level mask)) (lowestCpus (r .masks) level mask)

@@ -1,0 +1,4 @@
+pub mod Level
+pub mod Record
+pub mod Consistent
+pub mod Found
