@@ -7,14 +7,15 @@ use mathlib.Core.List.{List, [], _∷_}
 use mathlib.Core.Option.{Option, none, some}
 use Prim.Native.Nat.{ℕ, zero, suc, _≤_, _<_, _^_}
 use native.Mathlib.Omega.{arith}
-use lib.Dec.{eqb, leb}
-use borrow.Author.Tests.{eqb-true, eqb-false, leb-true, leb-false, not-false}
+use lib.Dec.{eqb, leb, ltb}
+use borrow.Author.Tests.{eqb-true, eqb-false, leb-true, leb-false, ltb-true, lt-ltb, not-false}
 use Rattle.rules.specs.Machine.{Machine, taskPlaces}
 use Rattle.rules.specs.Events.{Event, Kind, kindOf, byKind, effect, effectOf}
 use Rattle.rules.specs.Events.{add, remove, wake, sleep, set-priority, set-affinity, tick, yield, set-ordinary}
+use Rattle.cpupri.specs.Found.{maskFits}
 use Rattle.rules.specs.Refusals.{Check, firstFailing, Passes, checks, refusal, unknownKind}
 use Rattle.rules.specs.Outcome.{Outcome, outcome, answered, accepted, refused}
-use Rattle.rules.proofs.Bools.{both, neither}
+use Rattle.rules.proofs.Bools.{both, and-true}
 
 -- ---- the first that fails
 
@@ -107,8 +108,10 @@ one-of a b c h = go (eqb a b) refl (not-false (eqb a b || eqb a c) h)
     go true e h = inl (eqb-true a b e)
     go false e h = inr (eqb-true a c h)
 
-pub mask-good : (k n : ℕ) → (eqb k 0 || leb (2 ^ n) k) ≡ false → (0 < k) × (k < 2 ^ n)
-mask-good k n h =
-    let t : (eqb k 0 ≡ false) × (leb (2 ^ n) k ≡ false) = neither (eqb k 0) (leb (2 ^ n) k) h in
-    let z : k ≢ 0 = eqb-false k 0 (t .0) in
-    (omega arith, leb-false (2 ^ n) k (t .1))
+pub mask-good : (k n : ℕ) → maskFits n k ≡ true → (0 < k) × (k < 2 ^ n)
+unfolding maskFits
+mask-good k n h = let t = both (ltb 0 k) (ltb k (2 ^ n)) h in (ltb-true 0 k (t .0), ltb-true k (2 ^ n) (t .1))
+
+pub good-mask : (k n : ℕ) → 0 < k → k < 2 ^ n → maskFits n k ≡ true
+unfolding maskFits
+good-mask k n a b = and-true (ltb 0 k) (ltb k (2 ^ n)) (lt-ltb 0 k a) (lt-ltb k (2 ^ n) b)

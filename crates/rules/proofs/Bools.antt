@@ -12,8 +12,3 @@ pub and-true : (a b : Bool) → a ≡ true → b ≡ true → (a && b) ≡ true
 and-true true true p q = refl
 and-true true false p q = q
 and-true false b p q = p
-
-pub neither : (a b : Bool) → (a || b) ≡ false → (a ≡ false) × (b ≡ false)
-neither false false h = (refl, refl)
-neither false true h = absurd (true≢false h)
-neither true b h = absurd (true≢false h)

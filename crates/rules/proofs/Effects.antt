@@ -13,6 +13,7 @@ use lib.Seq.{getD-set-same, getD-set-other}
 use borrow.Author.Tests.{eqb-true, eqb-false, eq-eqb, ne-eqb, leb-true, leb-false, ltb-true, ltb-false, not-false}
 use Rattle.bits.specs.Bit.{bit, first, tally, digit}
 use Rattle.bits.proofs.Search.{first-le, first-holds, first-before, zero-of-bits}
+use Rattle.cpupri.specs.Found.{maskFits}
 use Rattle.rules.specs.Lists.{occ, In, Falling}
 use Rattle.rules.specs.Machine.{Machine, Task, Column, taskOf, freeTask, prioOf, row, flag, allowed, allows, lowestAllowed, fresh}
 use Rattle.rules.specs.Machine.{free, asleep, runnable, fifo, rr, taskPlaces, cpuPlaces, fullSlice, lowestPriority, highestPriority}
@@ -433,7 +434,7 @@ keep-effectOf m e add w p =
     priorities = between lowestPriority (e .b) highestPriority (p .1 .1 .1 .0)
 
     mask : (0 < e .mask) × (e .mask < 2 ^ m .n)
-    mask = mask-good (e .mask) (m .n) (p .1 .1 .1 .1 .0)
+    mask = mask-good (e .mask) (m .n) (not-false (maskFits (m .n) (e .mask)) (p .1 .1 .1 .1 .0))
 keep-effectOf m e remove w p =
     idle-write (e .who) m w (in-range taskPlaces (e .who) (p .0)) freeTask (λ h. omega (arith, is-state (taskOf m (e .who) .state) asleep (p .1 .0)))
     (is-free refl) (λ h. omega arith)
@@ -445,7 +446,7 @@ keep-effectOf m e set-priority w p =
     let b : (lowestPriority ≤ e .b) × (e .b ≤ highestPriority) = between lowestPriority (e .b) highestPriority (p .1 .1 .0) in
     keep-reprioritised (e .who) m w (in-range taskPlaces (e .who) (p .0)) (e .b) (eqb-false (taskOf m (e .who) .state) free (p .1 .0)) (b .0) (b .1)
 keep-effectOf m e set-affinity w p =
-    let k : (0 < e .mask) × (e .mask < 2 ^ m .n) = mask-good (e .mask) (m .n) (p .1 .1 .0) in
+    let k : (0 < e .mask) × (e .mask < 2 ^ m .n) = mask-good (e .mask) (m .n) (not-false (maskFits (m .n) (e .mask)) (p .1 .1 .0)) in
     keep-reaffined (e .who) m w (in-range taskPlaces (e .who) (p .0)) (e .mask) (eqb-false (taskOf m (e .who) .state) free (p .1 .0)) (k .0) (k .1)
 keep-effectOf m e tick w p = keep-ticked (e .who) m w
 keep-effectOf m e yield w p = keep-yielded (e .who) m w

@@ -15,7 +15,9 @@ use Rattle.rules.specs.Machine.{Machine, Task, taskOf, freeTask, prioOf,
 use Rattle.rules.specs.Machine.{lowestPriority, highestPriority, fullSlice}
 use Rattle.rules.specs.WellFormed.{Shape, Fit, Sound, is-free, is-asleep, is-runnable, standing, WellFormed}
 use Rattle.rules.specs.WellFormed.{shaped, gathered, tasks, zeros, fits, soundTask, falls, soundRow, wellFormed}
+use Rattle.cpupri.specs.Found.{sizeFits}
 use Rattle.rules.proofs.Bools.{both, and-true}
+use Rattle.rules.proofs.Accept.{mask-good, good-mask}
 use Rattle.rules.proofs.Lists.{same?, in-here, in-there, in-cons, not-in-nil, occ-nil}
 use Rattle.rules.proofs.Apart.{standing-home, standing-away, standing-idle, standing-means, standing-le, no-task, in-row, row-in, runnable-fit}
 
@@ -97,7 +99,15 @@ module _ (m : Machine) (s : Shape m) where
       gathered-at (m .state) (m .policy) (m .prio) (m .cpu) (m .slice) (m .mask) t (subst (λ (n : ℕ). t < n) (sym (s .state)) h)
       (s .policy ∙ sym (s .state)) (s .prio ∙ sym (s .state)) (s .cpu ∙ sym (s .state)) (s .slice ∙ sym (s .state)) (s .mask ∙ sym (s .state))
 
--- ---- the lengths
+-- ---- N and the lengths
+
+pub size-good : (n : ℕ) → sizeFits n ≡ true → (1 ≤ n) × (n ≤ cpuPlaces)
+unfolding sizeFits
+size-good n h = let t = both (ltb 0 n) (leb n cpuPlaces) h in (ltb-true 0 n (t .0), leb-true n cpuPlaces (t .1))
+
+pub good-size : (n : ℕ) → 1 ≤ n → n ≤ cpuPlaces → sizeFits n ≡ true
+unfolding sizeFits
+good-size n a b = and-true (ltb 0 n) (leb n cpuPlaces) (lt-ltb 0 n a) (le-leb n cpuPlaces b)
 
 pub shaped-shape : (m : Machine) → shaped m ≡ true → Shape m
 shaped-shape m h =
@@ -109,10 +119,10 @@ shaped-shape m h =
     let f = both _ _ (e .0) in
     let g = both _ _ (f .0) in
     let i = both _ _ (g .0) in
-    let j = both _ _ (i .0) in
+    let j = size-good (m .n) (i .0) in
     record {
-      some-cpu = leb-true 1 (m .n) (j .0);
-      cpus = leb-true (m .n) cpuPlaces (j .1);
+      some-cpu = j .0;
+      cpus = j .1;
       state = eqb-true (length (m .state)) taskPlaces (i .1);
       policy = eqb-true (length (m .policy)) taskPlaces (g .1);
       prio = eqb-true (length (m .prio)) taskPlaces (f .1);
@@ -125,8 +135,8 @@ shaped-shape m h =
 
 pub shape-shaped : (m : Machine) → Shape m → shaped m ≡ true
 shape-shaped m s =
-    and-true _ _ (and-true _ _ (and-true _ _ (and-true _ _ (and-true _ _ (and-true _ _ (and-true _ _ (and-true _ _ (and-true _ _
-    (le-leb 1 (m .n) (s .some-cpu)) (le-leb (m .n) cpuPlaces (s .cpus))) (eq-eqb (length (m .state)) taskPlaces (s .state)))
+    and-true _ _ (and-true _ _ (and-true _ _ (and-true _ _ (and-true _ _ (and-true _ _ (and-true _ _ (and-true _ _
+    (good-size (m .n) (s .some-cpu) (s .cpus)) (eq-eqb (length (m .state)) taskPlaces (s .state)))
     (eq-eqb (length (m .policy)) taskPlaces (s .policy))) (eq-eqb (length (m .prio)) taskPlaces (s .prio)))
     (eq-eqb (length (m .cpu)) taskPlaces (s .cpu))) (eq-eqb (length (m .slice)) taskPlaces (s .slice)))
     (eq-eqb (length (m .mask)) taskPlaces (s .mask))) (eq-eqb (length (m .rows)) (m .n) (s .rows))) (eq-eqb (length (m .flags)) (m .n) (s .flags))
@@ -155,25 +165,25 @@ fits-fit n τ h =
     let e = both _ _ (d .0) in
     let f = both _ _ (e .0) in
     let g = both _ _ (f .0) in
-    let i = both _ _ (g .0) in
+    let k = mask-good (τ .mask) n (a .1) in
     record {
-      policy-low = leb-true fifo (τ .policy) (i .0);
-      policy-high = leb-true (τ .policy) rr (i .1);
-      prio-low = leb-true lowestPriority (τ .prio) (g .1);
-      prio-high = leb-true (τ .prio) highestPriority (f .1);
-      cpu = ltb-true (τ .cpu) n (e .1);
-      slice-low = leb-true 1 (τ .slice) (d .1);
-      slice-high = leb-true (τ .slice) fullSlice (c .1);
-      mask-some = ltb-true 0 (τ .mask) (b .1);
-      mask-fits = ltb-true (τ .mask) (2 ^ n) (a .1);
+      policy-low = leb-true fifo (τ .policy) (g .0);
+      policy-high = leb-true (τ .policy) rr (g .1);
+      prio-low = leb-true lowestPriority (τ .prio) (f .1);
+      prio-high = leb-true (τ .prio) highestPriority (e .1);
+      cpu = ltb-true (τ .cpu) n (d .1);
+      slice-low = leb-true 1 (τ .slice) (c .1);
+      slice-high = leb-true (τ .slice) fullSlice (b .1);
+      mask-some = k .0;
+      mask-fits = k .1;
     }
 
 fit-fits : (n : ℕ) (τ : Task) → Fit n τ → fits n τ ≡ true
 fit-fits n τ f =
-    and-true _ _ (and-true _ _ (and-true _ _ (and-true _ _ (and-true _ _ (and-true _ _ (and-true _ _ (and-true _ _
+    and-true _ _ (and-true _ _ (and-true _ _ (and-true _ _ (and-true _ _ (and-true _ _ (and-true _ _
     (le-leb fifo (τ .policy) (f .policy-low)) (le-leb (τ .policy) rr (f .policy-high))) (le-leb lowestPriority (τ .prio) (f .prio-low)))
     (le-leb (τ .prio) highestPriority (f .prio-high))) (lt-ltb (τ .cpu) n (f .cpu))) (le-leb 1 (τ .slice) (f .slice-low)))
-    (le-leb (τ .slice) fullSlice (f .slice-high))) (lt-ltb 0 (τ .mask) (f .mask-some))) (lt-ltb (τ .mask) (2 ^ n) (f .mask-fits))
+    (le-leb (τ .slice) fullSlice (f .slice-high))) (good-mask (τ .mask) n (f .mask-some) (f .mask-fits))
 
 -- what the test says of a task besides W1 and W2: a runnable one stands once in the row of its CPU, which is allowed
 abbrev Placed : Machine → ℕ → Task → Type 0

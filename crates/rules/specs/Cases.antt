@@ -5,10 +5,11 @@ use mathlib.Core.Bool.{Bool, true, false, cond}
 use mathlib.Core.List.{List, [], _∷_, _++_, map}
 use Prim.Native.Nat.{ℕ, zero, suc, _+_, _-_, _^_}
 use lib.ListN.{replicate}
+use Rattle.cpupri.specs.Found.{sizeFits}
 use Rattle.rules.specs.Lists.{below}
 use Rattle.rules.specs.Machine.{Machine, taskOf, level, fresh, fifo, rr, fullSlice}
 use Rattle.rules.specs.Events.{Event}
-use Rattle.rules.specs.Refusals.{sized, badSize}
+use Rattle.rules.specs.Refusals.{badSize}
 use Rattle.rules.specs.Outcome.{Outcome, outcome, refused, logNumbers}
 
 -- ---- events
@@ -69,7 +70,7 @@ played (e ∷ es) m = played es (outcome m e .machine)
 
 -- the last event; N itself is checked first
 abbrev pub last : Case → Outcome
-last k = cond (sized (k .n)) (outcome (played (k .before) (fresh (k .n))) (k .last)) (refused badSize (fresh (k .n)))
+last k = cond (sizeFits (k .n)) (outcome (played (k .before) (fresh (k .n))) (k .last)) (refused badSize (fresh (k .n)))
 
 abbrev pub look : List ℕ → Outcome → Seen
 look ts o =

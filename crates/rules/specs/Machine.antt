@@ -7,6 +7,7 @@ use Prim.Native.Nat.{ℕ, zero, suc, _+_, _-_}
 use lib.Dec.{ltb}
 use lib.ListN.{getD, set, replicate}
 use Rattle.bits.specs.Bit.{bit, first}
+pub use Rattle.cpupri.specs.Level.{cpuPlaces, levelOf, invalid}
 use Rattle.rules.specs.Lists.{below, insertBefore, delete}
 
 -- ---- sizes
@@ -14,10 +15,6 @@ use Rattle.rules.specs.Lists.{below, insertBefore, delete}
 -- task places, and places of one row
 abbrev pub taskPlaces : ℕ
 taskPlaces = 512
-
--- CPU places of the CPU-priority record; N is at most this
-abbrev pub cpuPlaces : ℕ
-cpuPlaces = 64
 
 -- ---- a task's columns
 
@@ -123,13 +120,7 @@ fresh n =
       flags = replicate n 0;
     }
 
--- ---- levels: 0 idle, 1 ordinary work only, priority p at p + 2; 255 for no CPU
-
-abbrev pub levelOf : ℕ → ℕ
-levelOf p = p + 2
-
-abbrev pub invalid : ℕ
-invalid = 255
+-- ---- levels, as the CPU-priority record has them: 0 idle, 1 ordinary work only, priority p at p + 2; INVALID for no CPU
 
 -- A row's level is its first task's; an empty row's is its flag. It takes the priorities as a function.
 abbrev pub rowLevel : (ℕ → ℕ) → ℕ → List ℕ → ℕ

@@ -1,12 +1,16 @@
--- Refusals 3 to 9: for each kind a list of checks in the paper's order; the answer is the first that fails, or 0.
+-- Refusals 3 to 9: for each kind a list of checks in the paper's order; the answer is the first that fails, or 0. A check is the finder's:
+-- whether it fails, and its number. The finder's mask check is the events' too.
 -- Assumes nothing.
 use mathlib.Core.Path.{_≡_}
 use mathlib.Core.Bool.{Bool, true, false, cond, _&&_, _||_, not}
 use mathlib.Core.List.{List, [], _∷_}
 use mathlib.Core.Option.{Option, none, some}
-use Prim.Native.Nat.{ℕ, zero, suc, _^_}
-use lib.Dec.{eqb, leb, ltb}
-use Rattle.rules.specs.Machine.{Machine, taskOf, row, free, asleep, runnable, fifo, rr, taskPlaces, cpuPlaces, lowestPriority, highestPriority}
+use Prim.Native.Nat.{ℕ, zero, suc}
+use lib.Dec.{eqb, leb}
+pub use Rattle.cpupri.specs.Found.{Check}
+unfoldable pub use Rattle.cpupri.specs.Found.{refusal as firstFailing}
+use Rattle.cpupri.specs.Found.{maskFits}
+use Rattle.rules.specs.Machine.{Machine, taskOf, row, free, asleep, runnable, fifo, rr, taskPlaces, lowestPriority, highestPriority}
 use Rattle.rules.specs.Events.{Event, Kind, kindOf, byKind}
 use Rattle.rules.specs.Events.{add, remove, wake, sleep, set-priority, set-affinity, tick, yield, set-ordinary}
 
@@ -41,24 +45,10 @@ emptyRow = 9
 
 -- ---- checks
 
--- a refusal number, and whether it is given
-pub record Check : Type 0 where
-  pub number : ℕ
-  pub fails : Bool
-
--- the first that fails; 0 if none does
-unfoldable pub firstFailing : List Check → ℕ
-firstFailing [] = 0
-firstFailing (c ∷ cs) = cond (c .fails) (c .number) (firstFailing cs)
-
 -- every check passes
 abbrev pub Passes : List Check → Type 0
 Passes [] = Unit {0}
 Passes (c ∷ cs) = (c .fails ≡ false) × Passes cs
-
--- 1 ≤ N ≤ 64
-abbrev pub sized : ℕ → Bool
-sized n = leb 1 n && leb n cpuPlaces
 
 module _ (m : Machine) (e : Event) where
   abbrev noTask : Check
@@ -82,9 +72,9 @@ module _ (m : Machine) (e : Event) where
   abbrev noFlag : Check
   noFlag = record { number = badValue; fails = not (leb (e .b) 1) }
 
-  -- 0, or a bit at N or above: a word has one exactly if it is at least 2 ^ N
+  -- 0, or a bit at N or above
   abbrev noMask : Check
-  noMask = record { number = badMask; fails = eqb (e .mask) 0 || leb (2 ^ m .n) (e .mask) }
+  noMask = record { number = badMask; fails = not (maskFits (m .n) (e .mask)) }
 
   abbrev isEmpty : List ℕ → Bool
   isEmpty [] = true

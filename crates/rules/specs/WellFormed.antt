@@ -8,6 +8,7 @@ use Prim.Native.Nat.{ℕ, zero, suc, _≤_, _<_, _^_}
 use lib.Dec.{eqb, leb, ltb}
 use lib.ListN.{length}
 use Rattle.bits.specs.Bit.{digit}
+use Rattle.cpupri.specs.Found.{sizeFits, maskFits}
 use Rattle.rules.specs.Lists.{occ, In, Falling, each}
 use Rattle.rules.specs.Machine.{Machine, Task, taskOf, freeTask, prioOf, row, flag, allowed, free, asleep, runnable, fifo, rr, taskPlaces, cpuPlaces}
 use Rattle.rules.specs.Machine.{lowestPriority, highestPriority, fullSlice}
@@ -65,7 +66,7 @@ pub record WellFormed (m : Machine) : Type 0 where
 
 abbrev pub shaped : Machine → Bool
 shaped m =
-    leb 1 (m .n) && leb (m .n) cpuPlaces && eqb (length (m .state)) taskPlaces && eqb (length (m .policy)) taskPlaces
+    sizeFits (m .n) && eqb (length (m .state)) taskPlaces && eqb (length (m .policy)) taskPlaces
     && eqb (length (m .prio)) taskPlaces && eqb (length (m .cpu)) taskPlaces && eqb (length (m .slice)) taskPlaces
     && eqb (length (m .mask)) taskPlaces && eqb (length (m .rows)) (m .n) && eqb (length (m .flags)) (m .n)
 
@@ -89,7 +90,7 @@ zeros τ = eqb (τ .policy) 0 && eqb (τ .prio) 0 && eqb (τ .cpu) 0 && eqb (τ 
 abbrev pub fits : ℕ → Task → Bool
 fits n τ =
     leb fifo (τ .policy) && leb (τ .policy) rr && leb lowestPriority (τ .prio) && leb (τ .prio) highestPriority && ltb (τ .cpu) n
-    && leb 1 (τ .slice) && leb (τ .slice) fullSlice && ltb 0 (τ .mask) && ltb (τ .mask) (2 ^ n)
+    && leb 1 (τ .slice) && leb (τ .slice) fullSlice && maskFits n (τ .mask)
 
 -- W1 and W2, and of a runnable task W4: it stands once in the row of its CPU, which is allowed
 abbrev pub soundTask : Machine → ℕ → Task → Bool
