@@ -15,7 +15,8 @@ use Rattle.rules.specs.Events.{add, remove, wake, sleep, set-priority, s
 use Rattle.cpupri.specs.Found.{maskFits}
 use Rattle.rules.specs.Refusals.{Check, firstFailing, Passes, checks, refusal, unknownKind}
 use Rattle.rules.specs.Outcome.{Outcome, outcome, answered, accepted, refused}
-use Rattle.rules.proofs.Bools.{both, and-true}
+use Rattle.bits.proofs.Tests.{and-both}
+use Rattle.rules.proofs.Bools.{both}
 
 -- ---- the first that fails
 
@@ -114,4 +115,4 @@ mask-good k n h = let t = both (ltb 0 k) (ltb k (2 ^ n)) h in (ltb-true 0 k (t .
 
 pub good-mask : (k n : ℕ) → 0 < k → k < 2 ^ n → maskFits n k ≡ true
 unfolding maskFits
-good-mask k n a b = and-true (ltb 0 k) (ltb k (2 ^ n)) (lt-ltb 0 k a) (lt-ltb k (2 ^ n) b)
+good-mask k n a b = and-both (ltb 0 k) (ltb k (2 ^ n)) (lt-ltb 0 k a) (lt-ltb k (2 ^ n) b)

@@ -11,3 +11,4 @@ pub mod Runs
 pub mod Demand3
 pub mod Room
 pub mod Test
+pub mod Tables

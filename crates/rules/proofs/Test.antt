@@ -16,7 +16,8 @@ use Rattle.rules.specs.Machine.{lowestPriority, highestPriority, fullSli
 use Rattle.rules.specs.WellFormed.{Shape, Fit, Sound, is-free, is-asleep, is-runnable, standing, WellFormed}
 use Rattle.rules.specs.WellFormed.{shaped, gathered, tasks, zeros, fits, soundTask, falls, soundRow, wellFormed}
 use Rattle.cpupri.specs.Found.{sizeFits}
-use Rattle.rules.proofs.Bools.{both, and-true}
+use Rattle.bits.proofs.Tests.{and-both}
+use Rattle.rules.proofs.Bools.{both}
 use Rattle.rules.proofs.Accept.{mask-good, good-mask}
 use Rattle.rules.proofs.Lists.{same?, in-here, in-there, in-cons, not-in-nil, occ-nil}
 use Rattle.rules.proofs.Apart.{standing-home, standing-away, standing-idle, standing-means, standing-le, no-task, in-row, row-in, runnable-fit}
@@ -36,7 +37,7 @@ module _ {A : Type 0} (d : A) (p : ℕ → A → Bool) where
   unfolding each
   at-each i [] h = refl
   at-each i (x ∷ xs) h =
-      and-true (p i x) (each p (suc i) xs) (h zero i (omega arith) (zero-lt-suc (length xs)))
+      and-both (p i x) (each p (suc i) xs) (h zero i (omega arith) (zero-lt-suc (length xs)))
       (at-each (suc i) xs (λ j k e l. h (suc j) k (omega arith) (Prim.Native.Nat.suc-le-suc l)))
 
 -- a walk that does not look at the place
@@ -54,7 +55,7 @@ module _ (p : ℕ → Bool) where
   pub in-each : (i : ℕ) (xs : List ℕ) → ((u : ℕ) → In u xs → p u ≡ true) → each (λ j u. p u) i xs ≡ true
   unfolding each
   in-each i [] h = refl
-  in-each i (x ∷ xs) h = and-true (p x) (each (λ j u. p u) (suc i) xs) (h x (in-here x xs)) (in-each (suc i) xs (λ u j. h u (in-there u x xs j)))
+  in-each i (x ∷ xs) h = and-both (p x) (each (λ j u. p u) (suc i) xs) (h x (in-here x xs)) (in-each (suc i) xs (λ u j. h u (in-there u x xs j)))
 
 -- ---- the columns together
 
@@ -107,7 +108,7 @@ size-good n h = let t = both (ltb 0 n) (leb n cpuPlaces) h in (ltb-true 0 n (t .
 
 pub good-size : (n : ℕ) → 1 ≤ n → n ≤ cpuPlaces → sizeFits n ≡ true
 unfolding sizeFits
-good-size n a b = and-true (ltb 0 n) (leb n cpuPlaces) (lt-ltb 0 n a) (le-leb n cpuPlaces b)
+good-size n a b = and-both (ltb 0 n) (leb n cpuPlaces) (lt-ltb 0 n a) (le-leb n cpuPlaces b)
 
 pub shaped-shape : (m : Machine) → shaped m ≡ true → Shape m
 shaped-shape m h =
@@ -135,7 +136,7 @@ shaped-shape m h =
 
 pub shape-shaped : (m : Machine) → Shape m → shaped m ≡ true
 shape-shaped m s =
-    and-true _ _ (and-true _ _ (and-true _ _ (and-true _ _ (and-true _ _ (and-true _ _ (and-true _ _ (and-true _ _
+    and-both _ _ (and-both _ _ (and-both _ _ (and-both _ _ (and-both _ _ (and-both _ _ (and-both _ _ (and-both _ _
     (good-size (m .n) (s .some-cpu) (s .cpus)) (eq-eqb (length (m .state)) taskPlaces (s .state)))
     (eq-eqb (length (m .policy)) taskPlaces (s .policy))) (eq-eqb (length (m .prio)) taskPlaces (s .prio)))
     (eq-eqb (length (m .cpu)) taskPlaces (s .cpu))) (eq-eqb (length (m .slice)) taskPlaces (s .slice)))
@@ -180,7 +181,7 @@ fits-fit n τ h =
 
 fit-fits : (n : ℕ) (τ : Task) → Fit n τ → fits n τ ≡ true
 fit-fits n τ f =
-    and-true _ _ (and-true _ _ (and-true _ _ (and-true _ _ (and-true _ _ (and-true _ _ (and-true _ _
+    and-both _ _ (and-both _ _ (and-both _ _ (and-both _ _ (and-both _ _ (and-both _ _ (and-both _ _
     (le-leb fifo (τ .policy) (f .policy-low)) (le-leb (τ .policy) rr (f .policy-high))) (le-leb lowestPriority (τ .prio) (f .prio-low)))
     (le-leb (τ .prio) highestPriority (f .prio-high))) (lt-ltb (τ .cpu) n (f .cpu))) (le-leb 1 (τ .slice) (f .slice-low)))
     (le-leb (τ .slice) fullSlice (f .slice-high))) (good-mask (τ .mask) n (f .mask-some) (f .mask-fits))
@@ -240,7 +241,7 @@ falling-falls : (p : ℕ → ℕ) (r : List ℕ) → Falling p r → falls p r �
 unfolding falls
 falling-falls p [] f = refl
 falling-falls p (t ∷ []) f = refl
-falling-falls p (t ∷ u ∷ us) f = and-true (leb (p u) (p t)) (falls p (u ∷ us)) (le-leb (p u) (p t) (f .0 u (in-here u us))) (falling-falls p (u ∷ us) (f .1))
+falling-falls p (t ∷ u ∷ us) f = and-both (leb (p u) (p t)) (falls p (u ∷ us)) (le-leb (p u) (p t) (f .0 u (in-here u us))) (falling-falls p (u ∷ us) (f .1))
 
 -- ---- the whole machine
 
@@ -317,7 +318,7 @@ test-well-formed m h t =
 
 -- and a well-formed one passes it
 pub well-formed-test : (m : Machine) → WellFormed m → (shaped m ≡ true) × (wellFormed m ≡ true)
-well-formed-test m w = (shape-shaped m (w .shape), and-true _ _ (and-true _ _ each-task each-row) each-flag)
+well-formed-test m w = (shape-shaped m (w .shape), and-both _ _ (and-both _ _ each-task each-row) each-flag)
   where
     each-task : each (soundTask m) 0 (tasks m) ≡ true
     each-task =
@@ -335,7 +336,7 @@ well-formed-test m w = (shape-shaped m (w .shape), and-true _ _ (and-true _ _ ea
         (λ j k e l.
         let s : j ≡ k = omega arith in
         subst (λ (r : List ℕ). soundRow m k r ≡ true) (ap (row m) (sym s))
-        (and-true _ _
+        (and-both _ _
         (in-each (λ u. eqb (standing (taskOf m u) k) 1) 0 (row m k)
         (λ u i. eq-eqb (standing (taskOf m u) k) 1 (standing-home (taskOf m u) k (in-row m u k w i .0) (in-row m u k w i .1))))
         (falling-falls (prioOf m) (row m k) (w .falling k))))

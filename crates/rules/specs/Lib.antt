@@ -8,3 +8,5 @@ pub mod Migration
 pub mod Outcome
 pub mod Cases
 pub mod Demand3
+pub mod Tables
+pub mod Entry
