@@ -12,3 +12,5 @@ pub mod Demand3
 pub mod Room
 pub mod Test
 pub mod Tables
+pub mod Record
+pub mod Log
