@@ -14,3 +14,4 @@ pub mod Test
 pub mod Tables
 pub mod Record
 pub mod Log
+pub mod Entry
