@@ -6,6 +6,7 @@ pub mod Rows
 pub mod Apart
 pub mod Accept
 pub mod Effects
+pub mod Order
 pub mod Step
 pub mod Runs
 pub mod Demand3

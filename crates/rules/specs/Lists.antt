@@ -17,6 +17,11 @@ occ x xs = tally (eqb x) xs
 abbrev pub In : ℕ → List ℕ → Type 0
 In x xs = 0 < occ x xs
 
+-- how many stand before the first x
+unfoldable pub place : ℕ → List ℕ → ℕ
+place x [] = 0
+place x (y ∷ ys) = cond (eqb x y) 0 (suc (place x ys))
+
 -- from the first to the last, the measure p never rises
 abbrev pub Falling : (ℕ → ℕ) → List ℕ → Type 0
 Falling p [] = Unit {0}

@@ -1,12 +1,13 @@
 -- The migration step, and the steps until none applies.
 -- Assumes nothing.
+use mathlib.Core.Path.{_≡_}
 use mathlib.Core.Bool.{Bool, true, false, cond}
 use mathlib.Core.List.{List, [], _∷_, _++_, map, tail}
 use mathlib.Core.Option.{Option, none, some}
-use Prim.Native.Nat.{ℕ, zero, suc}
+use Prim.Native.Nat.{ℕ, zero, suc, _≤_, _<_}
 use lib.Dec.{ltb}
-use Rattle.rules.specs.Lists.{below, select, joined, any, best}
-use Rattle.rules.specs.Machine.{Machine, taskOf, prioOf, level, levelOf, allowed, enqueue, dequeue}
+use Rattle.rules.specs.Lists.{In, place, below, select, joined, any, best}
+use Rattle.rules.specs.Machine.{Machine, taskOf, prioOf, row, level, levelOf, allowed, runnable, enqueue, dequeue}
 
 -- ---- who moves
 
@@ -29,9 +30,13 @@ movable m t = any (lower m t) (allowedCpus m t)
 abbrev pub movables : Machine → List ℕ
 movables m = select (movable m) (waiting m)
 
+-- task t has a higher priority than task u
+abbrev pub outranks : Machine → ℕ → ℕ → Bool
+outranks m t u = ltb (prioOf m u) (prioOf m t)
+
 -- the movable task of highest priority; among equals the one on the lowest-numbered CPU; among those the earliest in the row
 abbrev pub mover : Machine → Option ℕ
-mover m = best (λ t u. ltb (prioOf m u) (prioOf m t)) (movables m)
+mover m = best (outranks m) (movables m)
 
 -- ---- where to
 
@@ -39,9 +44,13 @@ abbrev pub orZero : Option ℕ → ℕ
 orZero none = 0
 orZero (some c) = c
 
+-- CPU c has a lower level than CPU d
+abbrev pub idler : Machine → ℕ → ℕ → Bool
+idler m c d = ltb (level m c) (level m d)
+
 -- of its allowed CPUs, one of the lowest level; among equals the lowest-numbered
 abbrev pub destination : Machine → ℕ → ℕ
-destination m t = orZero (best (λ c d. ltb (level m c) (level m d)) (allowedCpus m t))
+destination m t = orZero (best (idler m) (allowedCpus m t))
 
 -- ---- the step
 
@@ -61,6 +70,27 @@ nextOf m (some t) = some (moveOf m t)
 -- the step that applies, if one does
 unfoldable pub next : Machine → Option Move
 next m = nextOf m (mover m)
+
+-- what the step that applies is, in the paper's words: a fact about `next` that is proved of every well-formed machine
+pub record Chosen (m : Machine) (v : Move) : Type 0 where
+  -- the mover waits on its CPU, which is the step's origin, and is movable
+  pub runs : taskOf m (v .task) .state ≡ runnable
+  pub origin : taskOf m (v .task) .cpu ≡ v .origin
+  pub waits : In (v .task) (tail (row m (v .origin)))
+  pub moves : movable m (v .task) ≡ true
+  -- no movable task is higher
+  pub highest : (u : ℕ) → In u (waiting m) → movable m u ≡ true → prioOf m u ≤ prioOf m (v .task)
+  -- among equals none waits on a lower-numbered CPU, and among those none stands earlier in the row
+  pub lowest-cpu : (u : ℕ) → In u (waiting m) → movable m u ≡ true → prioOf m (v .task) ≤ prioOf m u → v .origin ≤ taskOf m u .cpu
+  pub earliest : (u : ℕ) → In u (waiting m) → movable m u ≡ true → prioOf m (v .task) ≤ prioOf m u → taskOf m u .cpu ≡ v .origin
+      → place (v .task) (row m (v .origin)) ≤ place u (row m (v .origin))
+  -- the destination is allowed, and its level is below the mover's
+  pub small : v .target < m .n
+  pub may : allowed m (v .task) (v .target) ≡ true
+  pub below : level m (v .target) < levelOf (prioOf m (v .task))
+  -- none of the allowed has a lower level, and among equals none has a lower number
+  pub lowest : (c : ℕ) → c < m .n → allowed m (v .task) c ≡ true → level m (v .target) ≤ level m c
+  pub nearest : (c : ℕ) → c < m .n → allowed m (v .task) c ≡ true → level m c ≤ level m (v .target) → v .target ≤ c
 
 -- the mover leaves its row and enters the destination's
 abbrev pub migrate : Move → Machine → Machine
