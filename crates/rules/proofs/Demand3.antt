@@ -18,7 +18,7 @@ use Rattle.rules.specs.Migration.{Settled, waiting, movable, next, settl
 use Rattle.rules.specs.Outcome.{Outcome, outcome, concluded, answered}
 use Rattle.rules.specs.Cases.{played}
 use Rattle.rules.specs.Demand3.{Demand3, Outdone}
-use Rattle.rules.proofs.Accept.{outcome-accepted}
+use Rattle.rules.proofs.Checks.{outcome-accepted}
 use Rattle.rules.proofs.Effects.{keep-effect, fresh-well-formed}
 use Rattle.rules.proofs.Step.{movable-by, none-movable, running-level}
 use Rattle.rules.proofs.Runs.{settle-run, settle-ends, run-few, run-movers, run-receivers, run-falling, run-movers-run, run-well-formed}

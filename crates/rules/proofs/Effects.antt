@@ -26,7 +26,7 @@ use Rattle.rules.proofs.Lists.{same?, in-here}
 use Rattle.rules.proofs.Rows.{put, store-other, store-same, write-other, write-same, shape-store, shape-write, shape-row}
 use Rattle.rules.proofs.Apart.{Apart, apart-idle, apart-dequeue, apart-store, apart-write, rejoin-idle, rejoin-enqueue}
 use Rattle.rules.proofs.Apart.{fit-of, runnable-place, runnable-fit, in-row, standing-idle, no-task}
-use Rattle.rules.proofs.Accept.{Accepted, accepted-checks, effect-is, in-range, is-state, between, one-of, mask-good}
+use Rattle.rules.proofs.Checks.{Accepted, accepted-checks, effect-is, in-range, is-state, between, one-of, mask-good}
 
 -- ---- a fresh machine
 

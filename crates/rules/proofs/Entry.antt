@@ -27,7 +27,7 @@ use Rattle.rules.specs.Tables.{Tables, machineOf, tablesOf, lengthsFit, 
 use Rattle.rules.specs.Entry.{Result, kept, written, sizeCheck, formCheck, checked, orElse, eventAnswer, made, madeBy, handled, handledBy}
 use Rattle.rules.proofs.Bools.{both}
 use Rattle.rules.proofs.Apart.{in-row, runnable-place}
-use Rattle.rules.proofs.Accept.{Accepted, accepted-checks, effect-is, outcome-accepted, passes, passed}
+use Rattle.rules.proofs.Checks.{Accepted, accepted-checks, effect-is, outcome-accepted, passes, passed}
 use Rattle.rules.proofs.Effects.{keep-effect, fresh-well-formed}
 use Rattle.rules.proofs.Runs.{settle-run, run-n}
 use Rattle.rules.proofs.Demand3.{demand3}

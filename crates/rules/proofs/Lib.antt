@@ -1,10 +1,10 @@
--- The laws of the rules.
-pub mod Marked
+-- The laws of the rules. `AllCases` has K1 to K12, `Demand3` demand 3, `Room` the room theorem, `Entry` what the public entries promise.
+pub mod AllCases
 pub mod Bools
 pub mod Lists
 pub mod Rows
 pub mod Apart
-pub mod Accept
+pub mod Checks
 pub mod Effects
 pub mod Order
 pub mod Step

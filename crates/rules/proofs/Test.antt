@@ -18,7 +18,7 @@ use Rattle.rules.specs.WellFormed.{shaped, gathered, tasks, zeros, fits,
 use Rattle.cpupri.specs.Found.{sizeFits}
 use Rattle.bits.proofs.Tests.{and-both}
 use Rattle.rules.proofs.Bools.{both}
-use Rattle.rules.proofs.Accept.{mask-good, good-mask}
+use Rattle.rules.proofs.Checks.{mask-good, good-mask}
 use Rattle.rules.proofs.Lists.{same?, in-here, in-there, in-cons, not-in-nil, occ-nil}
 use Rattle.rules.proofs.Apart.{standing-home, standing-away, standing-idle, standing-means, standing-le, no-task, in-row, row-in, runnable-fit}
 

@@ -9,6 +9,6 @@ use Rattle.rules.specs.Migration.{next, settle}
 use Rattle.rules.specs.Outcome.{outcome, logNumbers}
 use Rattle.rules.specs.Cases.{Case, Seen, cases, seen, played}
 
-pub marked : map seen cases ≡ map (λ (k : Case). k .expected) cases
+pub all-cases : map seen cases ≡ map (λ (k : Case). k .expected) cases
 unfolding bit first tally from select joined any bestFrom best insertBefore delete refusal sizeFits maskFits next settle outcome logNumbers played
-marked = refl
+all-cases = refl
