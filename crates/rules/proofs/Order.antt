@@ -32,6 +32,19 @@ place-zero x y ys h = go (same? x y)
     go (inl e) = e
     go (inr n) = absurd (omega (arith, place-there x y ys n))
 
+-- one place, one element
+pub place-same : (x y : ℕ) (xs : List ℕ) → In x xs → In y xs → place x xs ≡ place y xs → x ≡ y
+place-same x y [] i j e = absurd (not-in-nil x i)
+place-same x y (z ∷ zs) i j e = go (same? x z) (same? y z) (in-cons x z zs i) (in-cons y z zs j) (place-same x y zs)
+  where
+    go : (x ≡ z) ⊎ (x ≢ z) → (y ≡ z) ⊎ (y ≢ z) → (x ≡ z) ⊎ In x zs → (y ≡ z) ⊎ In y zs → (In x zs → In y zs → place x zs ≡ place y zs → x ≡ y) → x ≡ y
+    go (inl a) (inl b) i j ih = a ∙ sym b
+    go (inl a) (inr n) i j ih = absurd (omega (arith, place-here x z zs a, place-there y z zs n))
+    go (inr n) (inl b) i j ih = absurd (omega (arith, place-here y z zs b, place-there x z zs n))
+    go (inr n) (inr k) (inl a) j ih = absurd (n a)
+    go (inr n) (inr k) (inr i) (inl b) ih = absurd (k b)
+    go (inr n) (inr k) (inr i) (inr j) ih = ih i j (omega (arith, place-there x z zs n, place-there y z zs k))
+
 pub place-lt : (x : ℕ) (xs : List ℕ) → In x xs → place x xs < length xs
 place-lt x [] i = absurd (not-in-nil x i)
 place-lt x (y ∷ ys) i = go (same? x y) (in-cons x y ys i) (place-lt x ys)

@@ -17,7 +17,7 @@ use Rattle.rules.specs.WellFormed.{WellFormed}
 use Rattle.rules.specs.Migration.{Move, Chosen, waiting, allowedCpus, lower, movable, movables, outranks, mover, idler, destination, orZero, moveOf, nextOf, next, migrate}
 use Rattle.rules.proofs.Lists.{same?, occ-cons, digit-same, in-here, in-there, in-cons, not-in-nil, in-delete, delete-behind, in-below, below-in, select-in, in-select}
 use Rattle.rules.proofs.Lists.{any-some, some-any, in-tails, tails-in, falling-head, best-in, best-best, best-none, best-some}
-use Rattle.rules.proofs.Order.{place-there, place-from, place-select, place-tails, best-first}
+use Rattle.rules.proofs.Order.{place-there, place-same, place-from, place-select, place-tails, best-first}
 use Rattle.rules.proofs.Rows.{row-same, row-other}
 use Rattle.rules.proofs.Apart.{in-row, once, runnable-place, runnable-fit, Apart, room}
 use Rattle.rules.proofs.Effects.{keep-move, apart-home}
@@ -226,6 +226,57 @@ none-movable m u e i = go (mover m) refl e
     go : (o : Option ℕ) → mover m ≡ o → nextOf m o ≡ none → movable m u ≡ false
     go none h e = no (movable m u) refl h
     go (some t) h e = absurd (let z : _≡_ {A = ℕ} 0 1 = cc in omega arith)
+
+-- ---- the paper's words leave no choice: two steps of which they hold are one
+
+chosen-same : (m : Machine) (v q : Move) → Chosen m v → Chosen m q → v ≡ q
+chosen-same m v q a b = λ i. record { task = task i; origin = origin i; target = target i }
+  where
+    waits : (u : Move) → Chosen m u → In (u .task) (waiting m)
+    waits u k = in-tails (u .task) (u .origin) (m .rows) (k .waits)
+
+    up : prioOf m (v .task) ≤ prioOf m (q .task)
+    up = b .highest (v .task) (waits v a) (a .moves)
+
+    down : prioOf m (q .task) ≤ prioOf m (v .task)
+    down = a .highest (q .task) (waits q b) (b .moves)
+
+    origin : v .origin ≡ q .origin
+    origin =
+        let l : v .origin ≤ taskOf m (q .task) .cpu = a .lowest-cpu (q .task) (waits q b) (b .moves) up in
+        let r : q .origin ≤ taskOf m (v .task) .cpu = b .lowest-cpu (v .task) (waits v a) (a .moves) down in
+        let x : taskOf m (v .task) .cpu ≡ v .origin = a .origin in
+        let y : taskOf m (q .task) .cpu ≡ q .origin = b .origin in
+        omega arith
+
+    here : In (q .task) (row m (v .origin))
+    here = subst (λ (c : ℕ). In (q .task) (row m c)) (sym origin) (in-row-of-tail (q .task) (row m (q .origin)) (b .waits))
+
+    task : v .task ≡ q .task
+    task =
+        let l : place (v .task) (row m (v .origin)) ≤ place (q .task) (row m (v .origin)) =
+        a .earliest (q .task) (waits q b) (b .moves) up (b .origin ∙ sym origin) in
+        let r : place (q .task) (row m (v .origin)) ≤ place (v .task) (row m (v .origin)) =
+        subst (λ (c : ℕ). place (q .task) (row m c) ≤ place (v .task) (row m c)) (sym origin)
+        (b .earliest (v .task) (waits v a) (a .moves) down (a .origin ∙ origin)) in
+        place-same (v .task) (q .task) (row m (v .origin)) (in-row-of-tail (v .task) (row m (v .origin)) (a .waits)) here (omega arith)
+
+    target : v .target ≡ q .target
+    target =
+        let av : allowed m (v .task) (q .target) ≡ true = subst (λ (t : ℕ). allowed m t (q .target) ≡ true) (sym task) (b .may) in
+        let bq : allowed m (q .task) (v .target) ≡ true = subst (λ (t : ℕ). allowed m t (v .target) ≡ true) task (a .may) in
+        let l : v .target ≤ q .target = a .nearest (q .target) (b .small) av (b .lowest (v .target) (a .small) bq) in
+        let r : q .target ≤ v .target = b .nearest (v .target) (a .small) bq (a .lowest (q .target) (b .small) av) in
+        omega arith
+
+-- so a step that is as the paper says is the one that applies
+pub chosen-next : (m : Machine) (v : Move) → WellFormed m → Chosen m v → next m ≡ some v
+chosen-next m v w k = go (next m) refl
+  where
+    go : (o : Option Move) → next m ≡ o → next m ≡ some v
+    go none e =
+        absurd (true≢false (sym (k .moves) ∙ none-movable m (v .task) e (in-tails (v .task) (v .origin) (m .rows) (k .waits))))
+    go (some q) e = e ∙ ap (λ (x : Move). some x) (chosen-same m q v (chosen m q w e) k)
 
 -- ---- what a level says
 
