@@ -1,0 +1,71 @@
+-- Demand 3 holds of every accepted event of all nine kinds, on every well-formed machine, settled or not.
+-- Assumes nothing.
+use mathlib.Core.Path.{_≡_, refl, sym, ap, _∙_, subst}
+use mathlib.Core.Bool.{Bool, true, false, cond, true≢false}
+use mathlib.Core.List.{List, [], _∷_}
+use mathlib.Core.Option.{Option, none, some}
+use Prim.Native.Nat.{ℕ, zero, suc, _-_, _≤_, _<_}
+use native.Mathlib.Omega.{arith}
+use lib.Dec.{eqb, ltb}
+use lib.ListN.{length}
+use borrow.Author.Tests.{ltb-true, ltb-false}
+use Rattle.rules.specs.Lists.{In}
+use Rattle.rules.specs.Machine.{Machine, prioOf, level, levelOf, allowed, fresh, cpuPlaces}
+use Rattle.rules.specs.WellFormed.{WellFormed}
+use Rattle.rules.specs.Events.{Event, effect}
+use Rattle.rules.specs.Refusals.{refusal}
+use Rattle.rules.specs.Migration.{Settled, waiting, movable, next, settle, settled}
+use Rattle.rules.specs.Outcome.{Outcome, outcome, concluded, answered}
+use Rattle.rules.specs.Cases.{played}
+use Rattle.rules.specs.Demand3.{Demand3, Outdone}
+use Rattle.rules.proofs.Accept.{outcome-accepted}
+use Rattle.rules.proofs.Effects.{keep-effect, fresh-well-formed}
+use Rattle.rules.proofs.Step.{movable-by, none-movable, running-level}
+use Rattle.rules.proofs.Runs.{settle-run, settle-ends, run-few, run-movers, run-receivers, run-falling, run-movers-run, run-well-formed}
+
+-- where no task is movable, no waiting task is higher than what runs on a CPU it is allowed
+pub nothing-movable : (m : Machine) → WellFormed m → next m ≡ none → (t c : ℕ) → In t (waiting m) → c < m .n → allowed m t c ≡ true → Outdone m t c
+nothing-movable m w n t c i h a = running-level m c (prioOf m t) (w .flags c h) (go (ltb (level m c) (levelOf (prioOf m t))) refl)
+  where
+    go : (b : Bool) → ltb (level m c) (levelOf (prioOf m t)) ≡ b → levelOf (prioOf m t) ≤ level m c
+    go true e =
+        absurd (true≢false (sym (movable-by m t c h a (ltb-true (level m c) (levelOf (prioOf m t)) e)) ∙ none-movable m t n i))
+    go false e = ltb-false (level m c) (levelOf (prioOf m t)) e
+
+-- the steps from any well-formed machine
+pub settled-demand : (m : Machine) → WellFormed m → Demand3 m (settled m .log) (settled m .machine)
+settled-demand m w =
+    let r = settle-run (m .n) m in
+    let e : WellFormed (settled m .machine) = run-well-formed w r in
+    record {
+      few = omega (arith, run-few w r);
+      no-task-twice = run-movers w r;
+      no-cpu-twice = run-receivers w r;
+      falling = run-falling w r;
+      movers-run = run-movers-run w r;
+      settled = nothing-movable (settled m .machine) e (settle-ends (m .n) m w (omega arith));
+      well-formed = e;
+    }
+
+-- an accepted event: its own effect, then the steps
+pub demand3 : (m : Machine) (e : Event) → WellFormed m → refusal m e ≡ 0 → Demand3 (effect e m) (outcome m e .log) (outcome m e .machine)
+demand3 m e w h =
+    subst (λ (o : Outcome). Demand3 (effect e m) (o .log) (o .machine)) (sym (outcome-accepted m e h)) (settled-demand (effect e m) (keep-effect m e w h))
+
+-- any event, accepted or refused, keeps the machine well-formed
+pub keep-outcome : (m : Machine) (e : Event) → WellFormed m → WellFormed (outcome m e .machine)
+unfolding outcome
+keep-outcome m e w = go (refusal m e) refl
+  where
+    go : (r : ℕ) → refusal m e ≡ r → WellFormed (answered r e m .machine)
+    go zero h = settled-demand (effect e m) (keep-effect m e w h) .well-formed
+    go (suc r) h = w
+
+-- so is every machine that events reach from a fresh one
+pub keep-played : (es : List Event) (m : Machine) → WellFormed m → WellFormed (played es m)
+unfolding played
+keep-played [] m w = w
+keep-played (e ∷ es) m w = keep-played es (outcome m e .machine) (keep-outcome m e w)
+
+pub reached-well-formed : (n : ℕ) (es : List Event) → 1 ≤ n → n ≤ cpuPlaces → WellFormed (played es (fresh n))
+reached-well-formed n es h l = keep-played es (fresh n) (fresh-well-formed n h l)

@@ -1,0 +1,294 @@
+-- The public entries: what an answer 0 says of the lent tables, and that an accepted event and the fresh maker leave tables that pass the
+-- check again, with demand 3 of what they then hold.
+-- Assumes nothing.
+use mathlib.Core.Path.{_≡_, refl, sym, ap, ap₂, _∙_, subst}
+use mathlib.Core.Bool.{Bool, true, false, cond, not, _&&_}
+use mathlib.Core.Logic.{_≢_}
+use mathlib.Core.List.{List, [], _∷_}
+use Prim.Native.Nat.{ℕ, zero, suc, _-_, _*_, _≤_, _<_}
+use native.Mathlib.Omega.{arith}
+use lib.Dec.{eqb}
+use lib.ListN.{length, getD, replicate, length-map, length-replicate}
+use borrow.Author.Tests.{eqb-true, eq-eqb, not-false}
+use Rattle.bits.proofs.Tests.{and-both}
+use Rattle.cpupri.specs.Record.{recordOf}
+use Rattle.cpupri.specs.declared.record.Record.{Record}
+use Rattle.rules.specs.Lists.{In}
+use Rattle.rules.specs.Machine.{Machine, Column, taskOf, row, fresh, levels, taskPlaces, cpuPlaces, runnable, rr, fullSlice}
+use Rattle.rules.specs.Machine.{allows, lowestAllowed, store, enqueue, dequeue, requeue}
+use Rattle.rules.specs.WellFormed.{Shape, WellFormed, shaped, wellFormed}
+use Rattle.rules.specs.Events.{Event, Kind, effect, effectOf, tickedTask, toFirst}
+use Rattle.rules.specs.Events.{add, remove, wake, sleep, set-priority, set-affinity, tick, yield, set-ordinary}
+use Rattle.rules.specs.Refusals.{Check, firstFailing, Passes, refusal, badSize, illFormed}
+use Rattle.rules.specs.Migration.{settled}
+use Rattle.rules.specs.Outcome.{Outcome, outcome, accepted, logged, entryWidth, logEntries}
+use Rattle.rules.specs.Demand3.{Demand3}
+use Rattle.rules.specs.Tables.{Tables, machineOf, tablesOf, lengthsFit, tablesFit, recordFits, rowsOf, flatOf, rowCounts, storedRows, Stored, nothing, logPlaces}
+use Rattle.rules.specs.Entry.{Result, kept, written, sizeCheck, formCheck, checked, orElse, eventAnswer, made, madeBy, handled, handledBy}
+use Rattle.rules.proofs.Bools.{both}
+use Rattle.rules.proofs.Apart.{in-row, runnable-place}
+use Rattle.rules.proofs.Accept.{Accepted, accepted-checks, effect-is, outcome-accepted, passes, passed}
+use Rattle.rules.proofs.Effects.{keep-effect, fresh-well-formed}
+use Rattle.rules.proofs.Runs.{settle-run, run-n}
+use Rattle.rules.proofs.Demand3.{demand3}
+use Rattle.rules.proofs.Room.{row-fits}
+use Rattle.rules.proofs.Test.{size-good, good-size, shape-shaped, test-well-formed, well-formed-test}
+use Rattle.rules.proofs.Tables.{length-rowsOf, Fitting, length-flat, read-written, written-stored, test-stored, stored-test}
+use Rattle.rules.proofs.Record.{record-is, is-record}
+use Rattle.rules.proofs.Log.{length-logged}
+
+-- ---- what the check says
+
+-- W1 to W6 of what is lent, and its lengths
+pub record Good (n : ℕ) (r : Record) (s : Tables) : Type 0 where
+  pub machine : WellFormed (machineOf n s)
+  pub rows : length (s .rows) ≡ taskPlaces * n
+  pub counts : length (s .counts) ≡ n
+  pub log : length (s .log) ≡ logPlaces
+  pub stored : Stored (s .counts) (s .rows)
+  pub levels : r ≡ recordOf (levels (machineOf n s))
+
+-- the lengths of the tables are the machine's
+lengths-shape : (n : ℕ) (s : Tables) → lengthsFit n s ≡ true
+    → Shape (machineOf n s) × (length (s .rows) ≡ taskPlaces * n) × (length (s .counts) ≡ n) × (length (s .log) ≡ logPlaces)
+lengths-shape n s h =
+    let a = both _ _ h in
+    let b = both _ _ (a .0) in
+    let c = both _ _ (b .0) in
+    let d = both _ _ (c .0) in
+    let e = both _ _ (d .0) in
+    let f = both _ _ (e .0) in
+    let g = both _ _ (f .0) in
+    let i = both _ _ (g .0) in
+    let j = both _ _ (i .0) in
+    let k = both _ _ (j .0) in
+    let z = size-good n (k .0) in
+    let counts : length (s .counts) ≡ n = eqb-true (length (s .counts)) n (c .1) in (
+      record {
+        some-cpu = z .0;
+        cpus = z .1;
+        state = eqb-true (length (s .state)) taskPlaces (k .1);
+        policy = eqb-true (length (s .policy)) taskPlaces (j .1);
+        prio = eqb-true (length (s .prio)) taskPlaces (i .1);
+        cpu = eqb-true (length (s .cpu)) taskPlaces (g .1);
+        slice = eqb-true (length (s .slice)) taskPlaces (f .1);
+        mask = eqb-true (length (s .mask)) taskPlaces (e .1);
+        rows = length-rowsOf (s .counts) (s .rows) ∙ counts;
+        flags = eqb-true (length (s .flags)) n (b .1);
+      },
+      eqb-true (length (s .rows)) (taskPlaces * n) (d .1),
+      counts,
+      eqb-true (length (s .log)) logPlaces (a .1),
+    )
+
+shape-lengths : (n : ℕ) (s : Tables) → Shape (machineOf n s) → length (s .rows) ≡ taskPlaces * n → length (s .counts) ≡ n → length (s .log) ≡ logPlaces
+    → lengthsFit n s ≡ true
+shape-lengths n s p rows counts log =
+    and-both _ _ (and-both _ _ (and-both _ _ (and-both _ _ (and-both _ _ (and-both _ _ (and-both _ _ (and-both _ _ (and-both _ _ (and-both _ _
+    (good-size n (p .some-cpu) (p .cpus)) (eq-eqb (length (s .state)) taskPlaces (p .state)))
+    (eq-eqb (length (s .policy)) taskPlaces (p .policy))) (eq-eqb (length (s .prio)) taskPlaces (p .prio)))
+    (eq-eqb (length (s .cpu)) taskPlaces (p .cpu))) (eq-eqb (length (s .slice)) taskPlaces (p .slice)))
+    (eq-eqb (length (s .mask)) taskPlaces (p .mask))) (eq-eqb (length (s .rows)) (taskPlaces * n) rows)) (eq-eqb (length (s .counts)) n counts))
+    (eq-eqb (length (s .flags)) n (p .flags))) (eq-eqb (length (s .log)) logPlaces log)
+
+-- the checker's 0 means W1 to W6
+pub checked-good : (n : ℕ) (r : Record) (s : Tables) → checked n r s ≡ 0 → Good n r s
+unfolding checked
+checked-good n r s h =
+    record {
+      machine = w;
+      rows = lengths .1;
+      counts = lengths .2;
+      log = lengths .3;
+      stored = test-stored (s .counts) (s .rows) (lengths .1 ∙ ap (λ (k : ℕ). taskPlaces * k) (sym (lengths .2))) (front .0);
+      levels = record-is (machineOf n s) r w (parts .1);
+    }
+  where
+    checks : Passes (sizeCheck n s ∷ formCheck n r s ∷ [])
+    checks = passes (sizeCheck n s ∷ formCheck n r s ∷ []) (omega arith) h
+
+    lengths : Shape (machineOf n s) × (length (s .rows) ≡ taskPlaces * n) × (length (s .counts) ≡ n) × (length (s .log) ≡ logPlaces)
+    lengths = lengths-shape n s (not-false (lengthsFit n s) (checks .0))
+
+    parts : (storedRows (s .counts) (s .rows) && wellFormed (machineOf n s) ≡ true) × (recordFits (machineOf n s) r ≡ true)
+    parts = both _ _ (not-false (tablesFit n r s) (checks .1 .0))
+
+    front : (storedRows (s .counts) (s .rows) ≡ true) × (wellFormed (machineOf n s) ≡ true)
+    front = both _ _ (parts .0)
+
+    w : WellFormed (machineOf n s)
+    w = test-well-formed (machineOf n s) (shape-shaped (machineOf n s) (lengths .0)) (front .1)
+
+-- and W1 to W6 give its 0
+pub good-checked : (n : ℕ) (r : Record) (s : Tables) → Good n r s → checked n r s ≡ 0
+unfolding checked
+good-checked n r s g =
+    passed (sizeCheck n s ∷ formCheck n r s ∷ [])
+    (ap not (shape-lengths n s (g .machine .shape) (g .rows) (g .counts) (g .log)), (ap not fit, tt))
+  where
+    fit : tablesFit n r s ≡ true
+    fit =
+        and-both _ _
+        (and-both _ _ (stored-test (s .counts) (s .rows) (g .rows ∙ ap (λ (k : ℕ). taskPlaces * k) (sym (g .counts))) (g .stored))
+        (well-formed-test (machineOf n s) (g .machine) .1))
+        (is-record (machineOf n s) r (g .machine) (g .levels))
+
+-- ---- a machine written back
+
+module _ (m : Machine) (w : WellFormed m) (log : List ℕ) where
+  fitting : Fitting (m .rows)
+  fitting c = row-fits m c w
+
+  -- it is read back as it was
+  pub written-machine : machineOf (m .n) (tablesOf m log) ≡ m
+  written-machine =
+      ap (λ (rs : List (List ℕ)).
+      record {
+        n = m .n;
+        state = m .state;
+        policy = m .policy;
+        prio = m .prio;
+        cpu = m .cpu;
+        slice = m .slice;
+        mask = m .mask;
+        rows = rs;
+        flags = m .flags;
+      })
+      (read-written (m .rows) fitting)
+
+  pub written-good : length log ≡ logPlaces → Good (m .n) (recordOf (levels m)) (tablesOf m log)
+  written-good h =
+      record {
+        machine = subst WellFormed (sym written-machine) w;
+        rows = long ∙ ap (λ (k : ℕ). taskPlaces * k) (w .shape .rows);
+        counts = count ∙ w .shape .rows;
+        log = h;
+        stored = test-stored (rowCounts (m .rows)) (flatOf (m .rows)) (long ∙ ap (λ (k : ℕ). taskPlaces * k) (sym count))
+            (written-stored (m .rows) fitting (λ c u i. runnable-place m u w (in-row m u c w i .0)));
+        levels = ap (λ (x : Machine). recordOf (levels x)) (sym written-machine);
+      }
+    where
+      long : length (flatOf (m .rows)) ≡ taskPlaces * length (m .rows)
+      long = length-flat (m .rows) fitting
+
+      count : length (rowCounts (m .rows)) ≡ length (m .rows)
+      count = length-map (m .rows) (λ (r : List ℕ). length r)
+
+-- ---- make a fresh machine
+
+pub made-good : (n : ℕ) (r : Record) (s : Tables) → lengthsFit n s ≡ true → Good n (made n r s .cpupri) (made n r s .tables)
+unfolding made
+made-good n r s h =
+    subst (λ (a : ℕ). Good n (madeBy a n r s .cpupri) (madeBy a n r s .tables)) (sym (passed (sizeCheck n s ∷ []) (ap not h, tt)))
+    (written-good (fresh n) (fresh-well-formed n (lengths-shape n s h .0 .some-cpu) (lengths-shape n s h .0 .cpus)) (replicate logPlaces nothing)
+    (length-replicate logPlaces nothing))
+
+-- ---- event
+
+-- N stays
+
+-- one of three machines, as two tests say
+three-n : (a b : Bool) (x y z : Machine) (n : ℕ) → x .n ≡ n → y .n ≡ n → z .n ≡ n → cond a (cond b x y) z .n ≡ n
+three-n true true x y z n p q r = p
+three-n true false x y z n p q r = q
+three-n false b x y z n p q r = r
+
+first-n : (f : ℕ → Machine) (m : Machine) (r : List ℕ) (n : ℕ) → m .n ≡ n → ((t : ℕ) → f t .n ≡ n) → toFirst f m r .n ≡ n
+first-n f m [] n p q = p
+first-n f m (t ∷ ts) n p q = q t
+
+ticked-n : (t c : ℕ) (m : Machine) → tickedTask t c m .n ≡ m .n
+ticked-n t c m =
+    three-n (eqb (taskOf m t .policy) rr) (eqb (taskOf m t .slice - 1) 0) (store Column.slice t fullSlice (requeue t c m))
+    (store Column.slice t (taskOf m t .slice - 1) m) m (m .n) refl refl refl
+
+pub effect-n : (k : Kind) (e : Event) (m : Machine) → effectOf k e m .n ≡ m .n
+effect-n add e m = refl
+effect-n remove e m = refl
+effect-n wake e m = refl
+effect-n sleep e m = refl
+effect-n set-priority e m =
+    let t = e .who in
+    three-n (eqb (taskOf m t .state) runnable) (eqb (taskOf m t .prio) (e .b)) m
+    (enqueue t (taskOf m t .cpu) (store Column.prio t (e .b) (dequeue t (taskOf m t .cpu) m))) (store Column.prio t (e .b) m) (m .n) refl refl refl
+effect-n set-affinity e m =
+    let t = e .who in
+    three-n (eqb (taskOf m t .state) runnable) (allows m (e .mask) (taskOf m t .cpu)) (store Column.mask t (e .mask) m)
+    (enqueue t (lowestAllowed m (e .mask)) (store Column.mask t (e .mask) (dequeue t (taskOf m t .cpu) m))) (store Column.mask t (e .mask) m) (m .n)
+    refl refl refl
+effect-n tick e m = first-n (λ t. tickedTask t (e .who) m) m (row m (e .who)) (m .n) refl (λ t. ticked-n t (e .who) m)
+effect-n yield e m = first-n (λ t. requeue t (e .who) m) m (row m (e .who)) (m .n) refl (λ t. refl)
+effect-n set-ordinary e m = refl
+
+pub outcome-n : (m : Machine) (e : Event) → refusal m e ≡ 0 → outcome m e .machine .n ≡ m .n
+outcome-n m e h =
+    let a : Accepted m e = accepted-checks m e h in
+    ap (λ (o : Outcome). o .machine .n) (outcome-accepted m e h)
+    ∙ run-n (settle-run (effect e m .n) (effect e m))
+    ∙ ap (λ (x : Machine). x .n) (effect-is m e a) ∙ effect-n (a .kind) e m
+
+-- an event is accepted exactly if the check passes and no refusal from 3 on applies
+pub answer-zero : (n : ℕ) (r : Record) (s : Tables) (e : Event) → eventAnswer n r s e ≡ 0 → (checked n r s ≡ 0) × (refusal (machineOf n s) e ≡ 0)
+unfolding eventAnswer
+answer-zero n r s e h = go (checked n r s) refl h
+  where
+    go : (a : ℕ) → checked n r s ≡ a → orElse a (refusal (machineOf n s) e) ≡ 0 → (checked n r s ≡ 0) × (refusal (machineOf n s) e ≡ 0)
+    go zero p h = (p, h)
+    go (suc a) p h = absurd (omega arith)
+
+pub handled-refused : (n : ℕ) (r : Record) (s : Tables) (e : Event) (a : ℕ) → eventAnswer n r s e ≡ suc a → handled n r s e ≡ kept (suc a) r s
+unfolding handled
+handled-refused n r s e a h = ap (λ (x : ℕ). handledBy x n r s e) h
+
+module _ (n : ℕ) (r : Record) (s : Tables) (e : Event) (h : eventAnswer n r s e ≡ 0) where
+  abbrev before : Machine
+  before = machineOf n s
+
+  abbrev done : Outcome
+  done = outcome before e
+
+  pub handled-accepted : handled n r s e ≡ written (done .moves) (done .machine) (logged (done .log) (s .log))
+  unfolding handled
+  handled-accepted = ap (λ (x : ℕ). handledBy x n r s e) h
+
+  good-before : Good n r s
+  good-before = checked-good n r s (answer-zero n r s e h .0)
+
+  takes : refusal before e ≡ 0
+  takes = answer-zero n r s e h .1
+
+  after-demand : Demand3 (effect e before) (done .log) (done .machine)
+  after-demand = demand3 before e (good-before .machine) takes
+
+  same-n : done .machine .n ≡ n
+  same-n = outcome-n before e takes
+
+  -- the log has room: at most 63 moves
+  log-fits : length (logged (done .log) (s .log)) ≡ logPlaces
+  log-fits =
+      let a : Accepted before e = accepted-checks before e takes in
+      let start : effect e before .n ≡ n = ap (λ (x : Machine). x .n) (effect-is before e a) ∙ effect-n (a .kind) e before in
+      let few : length (done .log) ≤ effect e before .n - 1 = after-demand .few in
+      let small : n ≤ cpuPlaces = good-before .machine .shape .cpus in
+      let long : length (s .log) ≡ logPlaces = good-before .log in
+      length-logged (done .log) (s .log) (omega arith) ∙ long
+
+  written-after : Good n (recordOf (levels (done .machine))) (tablesOf (done .machine) (logged (done .log) (s .log)))
+  written-after =
+      subst (λ (k : ℕ). Good k (recordOf (levels (done .machine))) (tablesOf (done .machine) (logged (done .log) (s .log)))) same-n
+      (written-good (done .machine) (after-demand .well-formed) (logged (done .log) (s .log)) log-fits)
+
+  -- the tables and the record that come back pass the check again
+  pub handled-good : Good n (handled n r s e .cpupri) (handled n r s e .tables)
+  handled-good = subst (λ (q : Result). Good n (q .cpupri) (q .tables)) (sym handled-accepted) written-after
+
+  -- they hold the machine with which the event ends
+  pub handled-machine : machineOf n (handled n r s e .tables) ≡ done .machine
+  handled-machine =
+      ap (λ (q : Result). machineOf n (q .tables)) handled-accepted
+      ∙ subst (λ (k : ℕ). machineOf k (tablesOf (done .machine) (logged (done .log) (s .log))) ≡ done .machine) same-n
+      (written-machine (done .machine) (after-demand .well-formed) (logged (done .log) (s .log)))
+
+  -- demand 3, of what they hold
+  pub handled-demand3 : Demand3 (effect e before) (done .log) (machineOf n (handled n r s e .tables))
+  handled-demand3 = subst (Demand3 (effect e before) (done .log)) (sym handled-machine) after-demand

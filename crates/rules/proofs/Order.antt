@@ -1,0 +1,200 @@
+-- Who stands first: places in lists, and that the best of a list is the first of its equals.
+-- Assumes nothing.
+use mathlib.Core.Path.{_≡_, refl, sym, ap, _∙_, subst}
+use mathlib.Core.Bool.{Bool, true, false, cond, true≢false, false≢true}
+use mathlib.Core.Logic.{_≢_, _⊎_, inl, inr}
+use mathlib.Core.List.{List, [], _∷_, _++_, map, tail}
+use mathlib.Core.Option.{Option, none, some}
+use Prim.Native.Nat.{ℕ, zero, suc, _+_, _≤_, _<_, zero-le, suc-le-suc}
+use native.Mathlib.Nat.{not-suc-le-zero, le-of-suc-le-suc}
+use native.Mathlib.Omega.{arith}
+use lib.Dec.{eqb}
+use lib.ListN.{length, getD}
+use borrow.Author.Tests.{eqb-true, eqb-false, eq-eqb, ne-eqb}
+use Rattle.rules.specs.Lists.{occ, In, place, from, select, joined, bestFrom, best}
+use Rattle.rules.proofs.Lists.{same?, in-here, in-there, in-cons, not-in-nil, occ-append, occ-nil, select-in, from-in, bestFrom-in, bestFrom-best}
+
+-- ---- places
+
+pub place-here : (x y : ℕ) (ys : List ℕ) → x ≡ y → place x (y ∷ ys) ≡ 0
+unfolding place
+place-here x y ys e = ap (λ (b : Bool). cond b 0 (suc (place x ys))) (eq-eqb x y e)
+
+pub place-there : (x y : ℕ) (ys : List ℕ) → x ≢ y → place x (y ∷ ys) ≡ suc (place x ys)
+unfolding place
+place-there x y ys n = ap (λ (b : Bool). cond b 0 (suc (place x ys))) (ne-eqb x y n)
+
+-- only the first has place 0
+pub place-zero : (x y : ℕ) (ys : List ℕ) → place x (y ∷ ys) ≤ 0 → x ≡ y
+place-zero x y ys h = go (same? x y)
+  where
+    go : (x ≡ y) ⊎ (x ≢ y) → x ≡ y
+    go (inl e) = e
+    go (inr n) = absurd (omega (arith, place-there x y ys n))
+
+pub place-lt : (x : ℕ) (xs : List ℕ) → In x xs → place x xs < length xs
+place-lt x [] i = absurd (not-in-nil x i)
+place-lt x (y ∷ ys) i = go (same? x y) (in-cons x y ys i) (place-lt x ys)
+  where
+    go : (x ≡ y) ⊎ (x ≢ y) → (x ≡ y) ⊎ In x ys → (In x ys → place x ys < length ys) → place x (y ∷ ys) < suc (length ys)
+    go (inl e) j ih = omega (arith, place-here x y ys e)
+    go (inr n) (inl e) ih = absurd (n e)
+    go (inr n) (inr j) ih = omega (arith, place-there x y ys n, ih j)
+
+pub place-left : (x : ℕ) (xs ys : List ℕ) → In x xs → place x (xs ++ ys) ≡ place x xs
+place-left x [] ys i = absurd (not-in-nil x i)
+place-left x (y ∷ xs) ys i = go (same? x y) (in-cons x y xs i) (place-left x xs ys)
+  where
+    go : (x ≡ y) ⊎ (x ≢ y) → (x ≡ y) ⊎ In x xs → (In x xs → place x (xs ++ ys) ≡ place x xs) → place x (y ∷ (xs ++ ys)) ≡ place x (y ∷ xs)
+    go (inl e) j ih = place-here x y (xs ++ ys) e ∙ sym (place-here x y xs e)
+    go (inr n) (inl e) ih = absurd (n e)
+    go (inr n) (inr j) ih = place-there x y (xs ++ ys) n ∙ ap suc (ih j) ∙ sym (place-there x y xs n)
+
+pub place-right : (x : ℕ) (xs ys : List ℕ) → (In x xs → ⊥) → place x (xs ++ ys) ≡ length xs + place x ys
+place-right x [] ys h = omega arith
+place-right x (y ∷ xs) ys h =
+    let n : x ≢ y = λ e. h (subst (λ (k : ℕ). In k (y ∷ xs)) (sym e) (in-here y xs)) in
+    let ih : place x (xs ++ ys) ≡ length xs + place x ys = place-right x xs ys (λ i. h (in-there x y xs i)) in
+    omega (arith, place-there x y (xs ++ ys) n)
+
+-- ---- lists in order
+
+-- a list of numbers upwards
+pub place-from : (i k c d : ℕ) → In c (from i k) → In d (from i k) → place c (from i k) ≤ place d (from i k) → c ≤ d
+unfolding from
+place-from i zero c d p q h = absurd (not-in-nil c p)
+place-from i (suc k) c d p q h = go (same? c i) (same? d i) (in-cons c i (from (suc i) k) p) (in-cons d i (from (suc i) k) q) (place-from (suc i) k c d)
+  where
+    go : (c ≡ i) ⊎ (c ≢ i) → (d ≡ i) ⊎ (d ≢ i) → (c ≡ i) ⊎ In c (from (suc i) k) → (d ≡ i) ⊎ In d (from (suc i) k)
+        → (In c (from (suc i) k) → In d (from (suc i) k) → place c (from (suc i) k) ≤ place d (from (suc i) k) → c ≤ d) → c ≤ d
+    go (inl e) b p q ih = let l : (i ≤ d) × (d < i + suc k) = from-in i (suc k) d (whole q) in omega arith
+      where
+        whole : (d ≡ i) ⊎ In d (from (suc i) k) → In d (i ∷ from (suc i) k)
+        whole (inl e) = subst (λ (x : ℕ). In x (i ∷ from (suc i) k)) (sym e) (in-here i (from (suc i) k))
+        whole (inr j) = in-there d i (from (suc i) k) j
+    go (inr n) (inl e) p q ih = absurd (n (place-zero c i (from (suc i) k) (omega (arith, place-here d i (from (suc i) k) e))))
+    go (inr n) (inr m) (inl e) q ih = absurd (n e)
+    go (inr n) (inr m) (inr p) (inl e) ih = absurd (m e)
+    go (inr n) (inr m) (inr p) (inr q) ih =
+        ih p q (omega (arith, place-there c i (from (suc i) k) n, place-there d i (from (suc i) k) m))
+
+-- selecting keeps the order
+pub place-select : (p : ℕ → Bool) (c d : ℕ) (xs : List ℕ) → p c ≡ true → p d ≡ true → place c (select p xs) ≤ place d (select p xs) → place c xs ≤ place d xs
+unfolding select place
+place-select p c d [] a b h = h
+place-select p c d (y ∷ ys) a b h = go (p y) refl h (same? c y) (same? d y) (place-select p c d ys a b)
+  where
+    go : (t : Bool) → p y ≡ t → place c (cond t (y ∷ select p ys) (select p ys)) ≤ place d (cond t (y ∷ select p ys) (select p ys))
+        → (c ≡ y) ⊎ (c ≢ y) → (d ≡ y) ⊎ (d ≢ y) → (place c (select p ys) ≤ place d (select p ys) → place c ys ≤ place d ys)
+        → place c (y ∷ ys) ≤ place d (y ∷ ys)
+    go t e h (inl s) d′ ih = omega (arith, place-here c y ys s)
+    go true e h (inr n) (inl s) ih = absurd (n (place-zero c y (select p ys) (omega (arith, place-here d y (select p ys) s))))
+    go true e h (inr n) (inr m) ih =
+        let l : place c ys ≤ place d ys = ih (omega (arith, place-there c y (select p ys) n, place-there d y (select p ys) m)) in
+        omega (arith, place-there c y ys n, place-there d y ys m)
+    go false e h (inr n) (inl s) ih = absurd (false≢true (sym e ∙ ap p (sym s) ∙ b))
+    go false e h (inr n) (inr m) ih =
+        let l : place c ys ≤ place d ys = ih h in omega (arith, place-there c y ys n, place-there d y ys m)
+
+-- of two that wait, the one that is listed first waits in an earlier row, or earlier in the same row
+pub place-tails : (x y i j : ℕ) (rs : List (List ℕ)) → In x (tail (getD rs i [])) → In y (tail (getD rs j []))
+    → ((k : ℕ) → In x (tail (getD rs k [])) → k ≡ i) → ((k : ℕ) → In y (tail (getD rs k [])) → k ≡ j)
+    → place x (joined (map tail rs)) ≤ place y (joined (map tail rs))
+    → (i ≤ j) × (i ≡ j → place x (tail (getD rs i [])) ≤ place y (tail (getD rs i [])))
+unfolding joined
+place-tails x y i j [] a b ux uy h = absurd (not-in-nil x a)
+place-tails x y zero zero (r ∷ rs) a b ux uy h =
+    (omega arith, λ e. omega (arith, place-left x (tail r) (joined (map tail rs)) a, place-left y (tail r) (joined (map tail rs)) b))
+place-tails x y zero (suc j) (r ∷ rs) a b ux uy h = (zero-le, λ e. absurd (omega arith))
+place-tails x y (suc i) zero (r ∷ rs) a b ux uy h =
+    absurd (omega (
+      arith,
+      place-left y (tail r) (joined (map tail rs)) b,
+      place-lt y (tail r) b,
+      place-right x (tail r) (joined (map tail rs)) (λ k. let z : 0 ≡ suc i = ux zero k in omega arith),
+    ))
+place-tails x y (suc i) (suc j) (r ∷ rs) a b ux uy h =
+    let px : place x (tail r ++ joined (map tail rs)) ≡ length (tail r) + place x (joined (map tail rs)) =
+    place-right x (tail r) (joined (map tail rs)) (λ k. let z : 0 ≡ suc i = ux zero k in omega arith) in
+    let py : place y (tail r ++ joined (map tail rs)) ≡ length (tail r) + place y (joined (map tail rs)) =
+    place-right y (tail r) (joined (map tail rs)) (λ k. let z : 0 ≡ suc j = uy zero k in omega arith) in
+    let ih =
+    place-tails x y i j rs a b (λ k q. let z : suc k ≡ suc i = ux (suc k) q in omega arith) (λ k q. let z : suc k ≡ suc j = uy (suc k) q in omega arith) (omega arith) in
+    (suc-le-suc (ih .0), λ e. ih .1 (omega arith))
+
+-- ---- the best is the first of its equals
+
+module _ (beats : ℕ → ℕ → Bool) (R : ℕ → ℕ → Type 0) (trans : (x y z : ℕ) → R x y → R y z → R x z)
+    (won : (x y : ℕ) → beats y x ≡ true → R y x) (lost : (x y : ℕ) → beats y x ≡ false → R x y) (self : (x : ℕ) → R x x)
+    (strict : (x y z : ℕ) → beats x y ≡ true → R y z → beats x z ≡ true) (up : (x y z : ℕ) → R x y → beats y z ≡ true → beats x z ≡ true) where
+  pub bestFrom-first : (x : ℕ) (xs : List ℕ) (u : ℕ) → In u (x ∷ xs) → beats (bestFrom beats x xs) u ≡ false
+      → place (bestFrom beats x xs) (x ∷ xs) ≤ place u (x ∷ xs)
+  unfolding bestFrom
+  bestFrom-first x [] u i h = omega (arith, place-here x x [] refl)
+  bestFrom-first x (y ∷ ys) u i h = go (beats y x) refl h (bestFrom-first x ys) (bestFrom-first y ys)
+    where
+      First : ℕ → Type 0
+      First z = (u : ℕ) → In u (z ∷ ys) → beats (bestFrom beats z ys) u ≡ false → place (bestFrom beats z ys) (z ∷ ys) ≤ place u (z ∷ ys)
+
+      -- a later one beats x
+      later : (b : ℕ) → R b y → beats y x ≡ true → beats b u ≡ false → (u ≡ x) ⊎ In u (y ∷ ys) → (b ≡ x) ⊎ (b ≢ x)
+          → (In u (y ∷ ys) → place b (y ∷ ys) ≤ place u (y ∷ ys)) → place b (x ∷ y ∷ ys) ≤ place u (x ∷ y ∷ ys)
+      later b r e h i (inl s) f = omega (arith, place-here b x (y ∷ ys) s)
+      later b r e h (inl s) (inr n) f = absurd (true≢false (sym (up b y x r e) ∙ ap (beats b) (sym s) ∙ h))
+      later b r e h (inr i) (inr n) f = pick (same? u x)
+        where
+          pick : (u ≡ x) ⊎ (u ≢ x) → place b (x ∷ y ∷ ys) ≤ place u (x ∷ y ∷ ys)
+          pick (inl s) = absurd (true≢false (sym (up b y x r e) ∙ ap (beats b) (sym s) ∙ h))
+          pick (inr k) = omega (arith, place-there b x (y ∷ ys) n, place-there u x (y ∷ ys) k, f i)
+
+      -- y does not beat x
+      sooner : (b : ℕ) → beats y x ≡ false → beats b u ≡ false → (b ≡ x) ⊎ (b ≢ x) → ((u : ℕ) → In u (x ∷ ys) → beats b u ≡ false → place b (x ∷ ys) ≤ place u (x ∷ ys))
+          → place b (x ∷ y ∷ ys) ≤ place u (x ∷ y ∷ ys)
+      sooner b e h (inl s) f = omega (arith, place-here b x (y ∷ ys) s)
+      sooner b e h (inr n) f = which (beats b x) refl
+        where
+          beaten : beats b x ≡ true → place b (x ∷ y ∷ ys) ≤ place u (x ∷ y ∷ ys)
+          beaten t = pick (same? u x) (same? u y) (same? b y)
+            where
+              pick : (u ≡ x) ⊎ (u ≢ x) → (u ≡ y) ⊎ (u ≢ y) → (b ≡ y) ⊎ (b ≢ y) → place b (x ∷ y ∷ ys) ≤ place u (x ∷ y ∷ ys)
+              pick (inl s) v w = absurd (true≢false (sym t ∙ ap (beats b) (sym s) ∙ h))
+              pick (inr k) (inl s) w = absurd (true≢false (sym (strict b x y t (lost x y e)) ∙ ap (beats b) (sym s) ∙ h))
+              pick (inr k) (inr l) (inl s) =
+                  omega (arith, place-there b x (y ∷ ys) n, place-here b y ys s, place-there u x (y ∷ ys) k)
+              pick (inr k) (inr l) (inr o) = last (in-cons u x (y ∷ ys) i)
+                where
+                  last : (u ≡ x) ⊎ In u (y ∷ ys) → place b (x ∷ y ∷ ys) ≤ place u (x ∷ y ∷ ys)
+                  last (inl s) = absurd (k s)
+                  last (inr j) = end (in-cons u y ys j)
+                    where
+                      end : (u ≡ y) ⊎ In u ys → place b (x ∷ y ∷ ys) ≤ place u (x ∷ y ∷ ys)
+                      end (inl s) = absurd (l s)
+                      end (inr q) =
+                          omega (
+                            arith,
+                            f u (in-there u x ys q) h,
+                            place-there b x ys n,
+                            place-there u x ys k,
+                            place-there b x (y ∷ ys) n,
+                            place-there b y ys o,
+                            place-there u x (y ∷ ys) k,
+                            place-there u y ys l,
+                          )
+
+          which : (t : Bool) → beats b x ≡ t → place b (x ∷ y ∷ ys) ≤ place u (x ∷ y ∷ ys)
+          which true t = beaten t
+          which false t = absurd (n (place-zero b x ys (omega (arith, f x (in-here x ys) t, place-here x x ys refl))))
+
+      go : (t : Bool) → beats y x ≡ t → beats (bestFrom beats (cond t y x) ys) u ≡ false → First x → First y
+          → place (bestFrom beats (cond t y x) ys) (x ∷ y ∷ ys) ≤ place u (x ∷ y ∷ ys)
+      go true e h fx fy =
+          later (bestFrom beats y ys) (bestFrom-best beats R trans won lost self y ys y (in-here y ys)) e h (in-cons u x (y ∷ ys) i)
+          (same? (bestFrom beats y ys) x) (λ j. fy u j h)
+      go false e h fx fy = sooner (bestFrom beats x ys) e h (same? (bestFrom beats x ys) x) fx
+
+  pub best-first : (xs : List ℕ) (b u : ℕ) → best beats xs ≡ some b → In u xs → beats b u ≡ false → place b xs ≤ place u xs
+  unfolding best
+  best-first [] b u e i h = absurd (not-in-nil u i)
+  best-first (x ∷ xs) b u e i h =
+      let s : bestFrom beats x xs ≡ b = cc in
+      subst (λ (k : ℕ). place k (x ∷ xs) ≤ place u (x ∷ xs)) s (bestFrom-first x xs u i (ap (λ (k : ℕ). beats k u) s ∙ h))

@@ -1,0 +1,69 @@
+-- The three public entries over what the caller lends: make a fresh machine, check, and event. Each gives its answer and all that it hands
+-- back, on a refusal too.
+-- Assumes nothing.
+use mathlib.Core.Bool.{Bool, not}
+use mathlib.Core.List.{List, [], _∷_}
+use Prim.Native.Nat.{ℕ, zero, suc}
+use lib.ListN.{replicate}
+use Rattle.cpupri.specs.Record.{recordOf}
+use Rattle.cpupri.specs.declared.record.Record.{Record}
+use Rattle.rules.specs.Machine.{Machine, fresh, levels}
+use Rattle.rules.specs.Events.{Event}
+use Rattle.rules.specs.Refusals.{Check, firstFailing, refusal, badSize, illFormed}
+use Rattle.rules.specs.Outcome.{Outcome, outcome, logged}
+use Rattle.rules.specs.Tables.{Tables, machineOf, tablesOf, lengthsFit, tablesFit, nothing, logPlaces}
+
+-- what comes back
+pub record Result : Type 0 where
+  pub answer : ℕ
+  pub moves : ℕ
+  pub cpupri : Record
+  pub tables : Tables
+
+-- refused, or nothing to change: all as it was lent
+abbrev pub kept : ℕ → Record → Tables → Result
+kept a r s = record { answer = a; moves = 0; cpupri = r; tables = s }
+
+-- a machine written back, with its record
+abbrev pub written : ℕ → Machine → List ℕ → Result
+written k m log = record { answer = 0; moves = k; cpupri = recordOf (levels m); tables = tablesOf m log }
+
+-- ---- the checks before an event's own: 1, then 2
+
+abbrev pub sizeCheck : ℕ → Tables → Check
+sizeCheck n s = record { number = badSize; fails = not (lengthsFit n s) }
+
+abbrev pub formCheck : ℕ → Record → Tables → Check
+formCheck n r s = record { number = illFormed; fails = not (tablesFit n r s) }
+
+-- the public checker: 0, 1 or 2
+unfoldable pub checked : ℕ → Record → Tables → ℕ
+checked n r s = firstFailing (sizeCheck n s ∷ formCheck n r s ∷ [])
+
+-- the first refusal, if there is one, else the next
+abbrev pub orElse : ℕ → ℕ → ℕ
+orElse zero b = b
+orElse (suc a) b = suc a
+
+-- the answer to an event: 1, 2, then 3 to 9
+unfoldable pub eventAnswer : ℕ → Record → Tables → Event → ℕ
+eventAnswer n r s e = orElse (checked n r s) (refusal (machineOf n s) e)
+
+-- ---- make a fresh machine: refuses only with 1, and old contents do not matter
+
+abbrev pub madeBy : ℕ → ℕ → Record → Tables → Result
+madeBy zero n r s = written 0 (fresh n) (replicate logPlaces nothing)
+madeBy (suc a) n r s = kept (suc a) r s
+
+unfoldable pub made : ℕ → Record → Tables → Result
+made n r s = madeBy (firstFailing (sizeCheck n s ∷ [])) n r s
+
+-- ---- event
+
+abbrev pub handledBy : ℕ → ℕ → Record → Tables → Event → Result
+handledBy zero n r s e =
+    let o : Outcome = outcome (machineOf n s) e in written (o .moves) (o .machine) (logged (o .log) (s .log))
+handledBy (suc a) n r s e = kept (suc a) r s
+
+unfoldable pub handled : ℕ → Record → Tables → Event → Result
+handled n r s e = handledBy (eventAnswer n r s e) n r s e

@@ -1,0 +1,289 @@
+-- The machine: N CPUs, 512 task places, a run queue for each CPU, and the level that each CPU has by what it runs.
+-- Assumes nothing.
+use mathlib.Core.Bool.{Bool, true, false, cond}
+use mathlib.Core.List.{List, [], _∷_, _++_, map}
+use mathlib.Core.Option.{Option, none, some}
+use Prim.Native.Nat.{ℕ, zero, suc, _+_, _-_}
+use lib.Dec.{ltb}
+use lib.ListN.{getD, set, replicate}
+use Rattle.bits.specs.Bit.{bit, first}
+pub use Rattle.cpupri.specs.Level.{cpuPlaces, levelOf, invalid}
+use Rattle.rules.specs.Lists.{below, insertBefore, delete}
+
+-- ---- sizes
+
+-- task places, and places of one row
+abbrev pub taskPlaces : ℕ
+taskPlaces = 512
+
+-- ---- a task's columns
+
+-- states
+abbrev pub free : ℕ
+free = 0
+
+abbrev pub asleep : ℕ
+asleep = 1
+
+abbrev pub runnable : ℕ
+runnable = 2
+
+-- policies
+abbrev pub fifo : ℕ
+fifo = 1
+
+abbrev pub rr : ℕ
+rr = 2
+
+-- priorities are 1 to 99, larger is higher
+abbrev pub lowestPriority : ℕ
+lowestPriority = 1
+
+abbrev pub highestPriority : ℕ
+highestPriority = 99
+
+-- a full time slice, in ticks
+abbrev pub fullSlice : ℕ
+fullSlice = 100
+
+-- one task place: its entry in each column; `slice` is what is left, bit c of the affinity `mask` is CPU c
+pub record Task : Type 0 where
+  pub state : ℕ
+  pub policy : ℕ
+  pub prio : ℕ
+  pub cpu : ℕ
+  pub slice : ℕ
+  pub mask : ℕ
+
+-- a free place holds 0 in all its columns
+abbrev pub freeTask : Task
+freeTask = record { state = free; policy = 0; prio = 0; cpu = 0; slice = 0; mask = 0 }
+
+-- ---- the machine
+
+-- The columns stay columns. `rows` are the run queues: row c lists the tasks of CPU c in run order, the first runs, the others wait.
+-- `flags` says which CPUs have ordinary work.
+pub record Machine : Type 0 where
+  pub n : ℕ
+  pub state : List ℕ
+  pub policy : List ℕ
+  pub prio : List ℕ
+  pub cpu : List ℕ
+  pub slice : List ℕ
+  pub mask : List ℕ
+  pub rows : List (List ℕ)
+  pub flags : List ℕ
+
+abbrev pub taskOf : Machine → ℕ → Task
+taskOf m t =
+    record {
+      state = getD (m .state) t 0;
+      policy = getD (m .policy) t 0;
+      prio = getD (m .prio) t 0;
+      cpu = getD (m .cpu) t 0;
+      slice = getD (m .slice) t 0;
+      mask = getD (m .mask) t 0;
+    }
+
+abbrev pub prioOf : Machine → ℕ → ℕ
+prioOf m t = taskOf m t .prio
+
+-- the run queue of CPU c
+abbrev pub row : Machine → ℕ → List ℕ
+row m c = getD (m .rows) c []
+
+abbrev pub flag : Machine → ℕ → ℕ
+flag m c = getD (m .flags) c 0
+
+-- the first of a row
+abbrev pub head : List ℕ → Option ℕ
+head [] = none
+head (t ∷ ts) = some t
+
+-- the task that runs on CPU c
+abbrev pub running : Machine → ℕ → Option ℕ
+running m c = head (row m c)
+
+-- all places free, rows empty, flags 0
+abbrev pub fresh : ℕ → Machine
+fresh n =
+    let zeros : List ℕ = replicate taskPlaces 0 in
+    record {
+      n = n;
+      state = zeros;
+      policy = zeros;
+      prio = zeros;
+      cpu = zeros;
+      slice = zeros;
+      mask = zeros;
+      rows = replicate n [];
+      flags = replicate n 0;
+    }
+
+-- ---- levels, as the CPU-priority record has them: 0 idle, 1 ordinary work only, priority p at p + 2; INVALID for no CPU
+
+-- A row's level is its first task's; an empty row's is its flag. It takes the priorities as a function.
+abbrev pub rowLevel : (ℕ → ℕ) → ℕ → List ℕ → ℕ
+rowLevel p f [] = f
+rowLevel p f (t ∷ ts) = levelOf (p t)
+
+abbrev pub level : Machine → ℕ → ℕ
+level m c = rowLevel (prioOf m) (flag m c) (row m c)
+
+-- the levels as the CPU-priority record holds them, one for each of its CPU places
+abbrev pub levels : Machine → List ℕ
+levels m = map (level m) (below (m .n)) ++ replicate (cpuPlaces - m .n) invalid
+
+-- ---- affinity
+
+-- a task with the affinity mask k may use CPU c
+abbrev pub allows : Machine → ℕ → ℕ → Bool
+allows m k c = bit k c
+
+abbrev pub allowed : Machine → ℕ → ℕ → Bool
+allowed m t c = allows m (taskOf m t .mask) c
+
+-- the lowest-numbered CPU that the mask k allows
+abbrev pub lowestAllowed : Machine → ℕ → ℕ
+lowestAllowed m k = first (allows m k) (m .n)
+
+-- ---- changing a machine
+
+pub data Column : Type 0 where
+  state policy prio cpu slice mask : Column
+
+-- task t's entry in one column becomes v
+abbrev pub store : Column → ℕ → ℕ → Machine → Machine
+store state t v m =
+    record {
+      n = m .n;
+      state = set (m .state) t v;
+      policy = m .policy;
+      prio = m .prio;
+      cpu = m .cpu;
+      slice = m .slice;
+      mask = m .mask;
+      rows = m .rows;
+      flags = m .flags;
+    }
+store policy t v m =
+    record {
+      n = m .n;
+      state = m .state;
+      policy = set (m .policy) t v;
+      prio = m .prio;
+      cpu = m .cpu;
+      slice = m .slice;
+      mask = m .mask;
+      rows = m .rows;
+      flags = m .flags;
+    }
+store prio t v m =
+    record {
+      n = m .n;
+      state = m .state;
+      policy = m .policy;
+      prio = set (m .prio) t v;
+      cpu = m .cpu;
+      slice = m .slice;
+      mask = m .mask;
+      rows = m .rows;
+      flags = m .flags;
+    }
+store cpu t v m =
+    record {
+      n = m .n;
+      state = m .state;
+      policy = m .policy;
+      prio = m .prio;
+      cpu = set (m .cpu) t v;
+      slice = m .slice;
+      mask = m .mask;
+      rows = m .rows;
+      flags = m .flags;
+    }
+store slice t v m =
+    record {
+      n = m .n;
+      state = m .state;
+      policy = m .policy;
+      prio = m .prio;
+      cpu = m .cpu;
+      slice = set (m .slice) t v;
+      mask = m .mask;
+      rows = m .rows;
+      flags = m .flags;
+    }
+store mask t v m =
+    record {
+      n = m .n;
+      state = m .state;
+      policy = m .policy;
+      prio = m .prio;
+      cpu = m .cpu;
+      slice = m .slice;
+      mask = set (m .mask) t v;
+      rows = m .rows;
+      flags = m .flags;
+    }
+
+-- task t's entry in every column
+abbrev pub write : ℕ → Task → Machine → Machine
+write t τ m =
+    record {
+      n = m .n;
+      state = set (m .state) t (τ .state);
+      policy = set (m .policy) t (τ .policy);
+      prio = set (m .prio) t (τ .prio);
+      cpu = set (m .cpu) t (τ .cpu);
+      slice = set (m .slice) t (τ .slice);
+      mask = set (m .mask) t (τ .mask);
+      rows = m .rows;
+      flags = m .flags;
+    }
+
+abbrev pub withRow : ℕ → List ℕ → Machine → Machine
+withRow c r m =
+    record {
+      n = m .n;
+      state = m .state;
+      policy = m .policy;
+      prio = m .prio;
+      cpu = m .cpu;
+      slice = m .slice;
+      mask = m .mask;
+      rows = set (m .rows) c r;
+      flags = m .flags;
+    }
+
+abbrev pub withFlag : ℕ → ℕ → Machine → Machine
+withFlag c b m =
+    record {
+      n = m .n;
+      state = m .state;
+      policy = m .policy;
+      prio = m .prio;
+      cpu = m .cpu;
+      slice = m .slice;
+      mask = m .mask;
+      rows = m .rows;
+      flags = set (m .flags) c b;
+    }
+
+-- ---- entering and leaving a row
+
+-- behind every task of the same or a higher priority and before all lower ones
+abbrev pub queued : (ℕ → ℕ) → ℕ → List ℕ → List ℕ
+queued p t r = insertBefore (λ u. ltb (p u) (p t)) t r
+
+-- task t enters row c, and c is then its CPU
+abbrev pub enqueue : ℕ → ℕ → Machine → Machine
+enqueue t c m = store cpu t c (withRow c (queued (prioOf m) t (row m c)) m)
+
+-- task t leaves row c
+abbrev pub dequeue : ℕ → ℕ → Machine → Machine
+dequeue t c m = withRow c (delete t (row m c)) m
+
+-- task t leaves row c and enters it again
+abbrev pub requeue : ℕ → ℕ → Machine → Machine
+requeue t c m = enqueue t c (dequeue t c m)

@@ -1,0 +1,99 @@
+-- Refusals 3 to 9: for each kind a list of checks in the paper's order; the answer is the first that fails, or 0. A check is the finder's:
+-- whether it fails, and its number. The finder's mask check is the events' too.
+-- Assumes nothing.
+use mathlib.Core.Path.{_≡_}
+use mathlib.Core.Bool.{Bool, true, false, cond, _&&_, _||_, not}
+use mathlib.Core.List.{List, [], _∷_}
+use mathlib.Core.Option.{Option, none, some}
+use Prim.Native.Nat.{ℕ, zero, suc}
+use lib.Dec.{eqb, leb}
+pub use Rattle.cpupri.specs.Found.{Check}
+unfoldable pub use Rattle.cpupri.specs.Found.{refusal as firstFailing}
+use Rattle.cpupri.specs.Found.{maskFits}
+use Rattle.rules.specs.Machine.{Machine, taskOf, row, free, asleep, runnable, fifo, rr, taskPlaces, lowestPriority, highestPriority}
+use Rattle.rules.specs.Events.{Event, Kind, kindOf, byKind}
+use Rattle.rules.specs.Events.{add, remove, wake, sleep, set-priority, set-affinity, tick, yield, set-ordinary}
+
+-- ---- the numbers
+
+abbrev pub badSize : ℕ
+badSize = 1
+
+abbrev pub illFormed : ℕ
+illFormed = 2
+
+abbrev pub unknownKind : ℕ
+unknownKind = 3
+
+abbrev pub badNumber : ℕ
+badNumber = 4
+
+abbrev pub wrongState : ℕ
+wrongState = 5
+
+abbrev pub badPolicy : ℕ
+badPolicy = 6
+
+abbrev pub badValue : ℕ
+badValue = 7
+
+abbrev pub badMask : ℕ
+badMask = 8
+
+abbrev pub emptyRow : ℕ
+emptyRow = 9
+
+-- ---- checks
+
+-- every check passes
+abbrev pub Passes : List Check → Type 0
+Passes [] = Unit {0}
+Passes (c ∷ cs) = (c .fails ≡ false) × Passes cs
+
+module _ (m : Machine) (e : Event) where
+  abbrev noTask : Check
+  noTask = record { number = badNumber; fails = leb taskPlaces (e .who) }
+
+  abbrev noCpu : Check
+  noCpu = record { number = badNumber; fails = leb (m .n) (e .who) }
+
+  abbrev notIn : ℕ → Check
+  notIn s = record { number = wrongState; fails = not (eqb (taskOf m (e .who) .state) s) }
+
+  abbrev isFree : Check
+  isFree = record { number = wrongState; fails = eqb (taskOf m (e .who) .state) free }
+
+  abbrev noPolicy : Check
+  noPolicy = record { number = badPolicy; fails = not (eqb (e .a) fifo || eqb (e .a) rr) }
+
+  abbrev noPriority : Check
+  noPriority = record { number = badValue; fails = not (leb lowestPriority (e .b) && leb (e .b) highestPriority) }
+
+  abbrev noFlag : Check
+  noFlag = record { number = badValue; fails = not (leb (e .b) 1) }
+
+  -- 0, or a bit at N or above
+  abbrev noMask : Check
+  noMask = record { number = badMask; fails = not (maskFits (m .n) (e .mask)) }
+
+  abbrev isEmpty : List ℕ → Bool
+  isEmpty [] = true
+  isEmpty (t ∷ ts) = false
+
+  abbrev nothingRuns : Check
+  nothingRuns = record { number = emptyRow; fails = isEmpty (row m (e .who)) }
+
+  abbrev pub checks : Kind → List Check
+  checks add = noTask ∷ notIn free ∷ noPolicy ∷ noPriority ∷ noMask ∷ []
+  checks remove = noTask ∷ notIn asleep ∷ []
+  checks wake = noTask ∷ notIn asleep ∷ []
+  checks sleep = noTask ∷ notIn runnable ∷ []
+  checks set-priority = noTask ∷ isFree ∷ noPriority ∷ []
+  checks set-affinity = noTask ∷ isFree ∷ noMask ∷ []
+  checks tick = noCpu ∷ []
+  checks yield = noCpu ∷ nothingRuns ∷ []
+  checks set-ordinary = noCpu ∷ noFlag ∷ []
+
+-- the answer, of a well-formed machine
+abbrev pub refusal : Machine → Event → ℕ
+refusal m e = byKind unknownKind (λ k. firstFailing (checks m e k)) (kindOf (e .kind))
