@@ -3,10 +3,13 @@
 use mathlib.Core.Path.{_≡_, refl, sym, ap, ap₂, _∙_, subst}
 use mathlib.Core.Bool.{Bool, true, false, cond, false≢true}
 use Prim.Native.Nat.{ℕ, zero, suc, _+_, _*_, _/_, _%_, _^_, _≤_, _<_, zero-le, suc-le-suc}
-use native.Mathlib.Nat.{not-suc-le-zero, le-of-suc-le-suc, zero-lt-suc, mod-lt}
+use native.Mathlib.Nat.{not-suc-le-zero, le-of-suc-le-suc, zero-lt-suc, lt-of-lt-of-le}
 use native.Mathlib.Omega.{arith}
 use lib.Arith.{lt-one}
+use lib.Dec.{leb, ltb}
 use lib.Count.{ones, ones-step, trailingZeros, under}
+use lib.Pow.{pow-pos}
+use borrow.Author.Tests.{leb-true, leb-false, ltb-true, ltb-false}
 use Rattle.bits.specs.Bit.{bit, digit, first, count, lowest, weight}
 use Rattle.bits.proofs.Digits.{bit-suc, digit-bit}
 use Rattle.bits.proofs.Word.{word-ext, bit-of-zero}
@@ -71,11 +74,11 @@ first-none p (suc k) b =
 
 -- one number that passes bounds it
 pub first-at-most : (p : ℕ → Bool) (k c : ℕ) → p c ≡ true → c < k → first p k ≤ c
-first-at-most p k c t h = go (lib.Dec.leb (first p k) c) refl
+first-at-most p k c t h = go (leb (first p k) c) refl
   where
-    go : (b : Bool) → lib.Dec.leb (first p k) c ≡ b → first p k ≤ c
-    go true e = borrow.Author.Tests.leb-true (first p k) c e
-    go false e = absurd (false≢true (sym (first-before p k c (borrow.Author.Tests.leb-false (first p k) c e)) ∙ t))
+    go : (b : Bool) → leb (first p k) c ≡ b → first p k ≤ c
+    go true e = leb-true (first p k) c e
+    go false e = absurd (false≢true (sym (first-before p k c (leb-false (first p k) c e)) ∙ t))
 
 -- ---- `count`
 
@@ -129,4 +132,19 @@ lowest-is k m c h t b = first-is (bit m) k c h t b
 
 -- a word of k bits is 0 exactly if none of its bits is set
 pub zero-of-bits : (k m : ℕ) → m < 2 ^ k → ((c : ℕ) → c < k → bit m c ≡ false) → m ≡ 0
-zero-of-bits k m h b = word-ext k m 0 h (lib.Pow.pow-pos k) (λ c l. b c l ∙ sym (bit-of-zero c))
+zero-of-bits k m h b = word-ext k m 0 h (pow-pos k) (λ c l. b c l ∙ sym (bit-of-zero c))
+
+-- so a word of k bits that is not 0 has a lowest bit below k
+pub lowest-lt : (k m : ℕ) → m < 2 ^ k → (m ≡ 0 → ⊥) → lowest k m < k
+unfolding lowest
+lowest-lt k m h ne = go (ltb (lowest k m) k) refl
+  where
+    go : (b : Bool) → ltb (lowest k m) k ≡ b → lowest k m < k
+    go true e = ltb-true (lowest k m) k e
+    go false e =
+        let out : k ≤ lowest k m = ltb-false (lowest k m) k e in
+        absurd (ne (zero-of-bits k m h (λ c l. first-before (bit m) k c (lt-of-lt-of-le l out))))
+
+pub lowest-at-most : (k m c : ℕ) → bit m c ≡ true → c < k → lowest k m ≤ c
+unfolding lowest
+lowest-at-most k m c t h = first-at-most (bit m) k c t h

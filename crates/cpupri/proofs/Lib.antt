@@ -5,3 +5,4 @@ pub mod Whole
 pub mod Fresh
 pub mod Words
 pub mod Agrees
+pub mod Found

@@ -93,6 +93,7 @@ fn parts_agree(r: Record, masks: [u64; LEVELS]) -> bool
         }
         level += 1;
     }
+    // bits 102 to 127
     r.words[1] >> 38 == 0
 }
 

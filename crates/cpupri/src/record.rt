@@ -67,8 +67,8 @@ impl Record {
         }
         let l = level as usize;
         let mut r = self;
-        let mask = bits::clear_bit(r.masks[l], cpu);
-        r.masks[l] = mask;
+        let without = bits::clear_bit(r.masks[l], cpu);
+        r.masks[l] = without;
         let count = r.counts[l] - 1;
         r.counts[l] = count;
         let word = bits::put_bit(r.words[l / 64], l % 64, count != 0);

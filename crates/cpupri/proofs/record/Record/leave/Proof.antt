@@ -49,7 +49,7 @@ element-copy-out-count c = at-level (c .before .before .before .before .before .
 
 -- src/record.rt:71:21
 sub-count : tie.Need-sub-count
-sub-count c = let a = c .before .before .before .before .before .before in counted (a .args .t1) (a .pre .0) (a .args .cpu) (a .pre .1) (getD (c .before .before .before .before .before .before .args .t1 .levels) (c .before .before .before .before .before .before .args .cpu) 0) (at-level (c .before .before .before .before .before .before .args .t1) (c .before .before .before .before .before .before .pre .0) (c .before .before .before .before .before .before .args .cpu) (c .before .before .before .before .before .before .pre .1) (c .before .before .before .if1 .left)) refl
+sub-count c = let a = c .before .before .before .before .before .before in omega (arith, counted (a .args .t1) (a .pre .0) (a .args .cpu) (a .pre .1) (getD (c .before .before .before .before .before .before .args .t1 .levels) (c .before .before .before .before .before .before .args .cpu) 0) (at-level (c .before .before .before .before .before .before .args .t1) (c .before .before .before .before .before .before .pre .0) (c .before .before .before .before .before .before .args .cpu) (c .before .before .before .before .before .before .pre .1) (c .before .before .before .if1 .left)) refl)
 
 -- src/record.rt:72:9
 element-write-r-2 : tie.Need-element-write-r-2
