@@ -16,3 +16,4 @@ pub mod Tables
 pub mod Record
 pub mod Log
 pub mod Entry
+pub mod LentCase

@@ -1,10 +1,10 @@
 -- The laws of lists that the rules rest on: standing in a list, joining and leaving a queue, the pigeonhole, and who is best.
 -- Assumes nothing.
 use mathlib.Core.Path.{_≡_, refl, sym, ap, _∙_, subst}
-use mathlib.Core.Bool.{Bool, true, false, cond, _&&_, _||_, true≢false, false≢true}
+use mathlib.Core.Bool.{Bool, true, false, cond, _||_, false≢true}
 use mathlib.Core.Logic.{_≢_, _⊎_, inl, inr}
 use mathlib.Core.List.{List, [], _∷_, _++_, map, tail}
-use mathlib.Core.Option.{Option, none, some}
+use mathlib.Core.Option.{none, some}
 use Prim.Native.Nat.{ℕ, zero, suc, _+_, _≤_, _<_, zero-le, suc-le-suc}
 use native.Mathlib.Nat.{not-suc-le-zero, le-of-suc-le-suc, zero-lt-suc}
 use native.Mathlib.Omega.{arith}
@@ -12,7 +12,7 @@ use lib.Dec.{eqb}
 use lib.ListN.{length, getD}
 use borrow.Author.Tests.{eqb-true, eqb-false, eq-eqb, ne-eqb}
 use Rattle.bits.specs.Bit.{digit, tally}
-use Rattle.rules.specs.Lists.{occ, In, Falling, from, below, select, joined, any, each, bestFrom, best, insertBefore, delete}
+use Rattle.rules.specs.Lists.{occ, In, Falling, from, below, select, joined, any, bestFrom, best, insertBefore, delete}
 
 -- ---- equal or not
 

@@ -1,20 +1,19 @@
 -- All steps of an event, as a relation: inductions over the steps go over it. The steps end because nothing is movable.
 -- Assumes nothing.
-use mathlib.Core.Path.{_≡_, refl, sym, ap, ap₂, _∙_, subst}
-use mathlib.Core.Bool.{Bool, true, false, true≢false, false≢true}
+use mathlib.Core.Path.{_≡_, refl, sym, ap, _∙_, subst}
 use mathlib.Core.Logic.{_≢_, _⊎_, inl, inr}
-use mathlib.Core.List.{List, [], _∷_, map}
+use mathlib.Core.List.{List, [], _∷_}
 use mathlib.Core.Option.{Option, none, some}
-use Prim.Native.Nat.{ℕ, zero, suc, _+_, _-_, _≤_, _<_, zero-le}
+use Prim.Native.Nat.{ℕ, zero, suc, _≤_, _<_}
 use native.Mathlib.Nat.{not-suc-le-zero, le-of-suc-le-suc}
 use native.Mathlib.Omega.{arith}
 use lib.ListN.{length, getD, length-map}
 use Rattle.rules.specs.Lists.{occ, In, Falling}
-use Rattle.rules.specs.Machine.{Machine, taskOf, prioOf, row, head, running, level, levelOf, taskPlaces}
+use Rattle.rules.specs.Machine.{Machine, taskOf, prioOf, row, head, running, level, levelOf}
 use Rattle.rules.specs.WellFormed.{WellFormed}
-use Rattle.rules.specs.Migration.{Move, Chosen, Settled, onward, next, migrate, settle, settled, waiting, movable}
+use Rattle.rules.specs.Migration.{Move, Chosen, Settled, onward, next, migrate, settle, settled}
 use Rattle.rules.specs.Demand3.{movers, receivers}
-use Rattle.rules.proofs.Lists.{same?, digit-same, digit-other, occ-cons, occ-nil, in-here, in-there, in-cons, not-in-nil, in-tails, pigeonhole}
+use Rattle.rules.proofs.Lists.{same?, digit-same, digit-other, occ-cons, occ-nil, in-here, in-cons, not-in-nil, in-tails, pigeonhole}
 use Rattle.rules.proofs.Apart.{in-row, once}
 use Rattle.rules.proofs.Step.{chosen, Cap, cap-step, keep-step, origin-small, origin-level, target-level, target-runs, same-runs, levels-rise}
 use Rattle.rules.proofs.Step.{level-running}

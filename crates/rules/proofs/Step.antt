@@ -1,25 +1,25 @@
 -- One migration step: who moves and where to, what it does to the rows and levels, and that it keeps the machine well-formed.
 -- Assumes nothing.
 use mathlib.Core.Path.{_≡_, refl, sym, ap, _∙_, subst}
-use mathlib.Core.Bool.{Bool, true, false, cond, true≢false, false≢true}
+use mathlib.Core.Bool.{Bool, true, false, cond, true≢false}
 use mathlib.Core.Logic.{_≢_, _⊎_, inl, inr}
-use mathlib.Core.List.{List, [], _∷_, map, tail}
+use mathlib.Core.List.{List, [], _∷_, tail}
 use mathlib.Core.Option.{Option, none, some}
-use Prim.Native.Nat.{ℕ, zero, suc, _+_, _≤_, _<_}
+use Prim.Native.Nat.{ℕ, suc, _≤_, _<_}
 use native.Mathlib.Omega.{arith}
 use lib.Dec.{ltb}
-use lib.ListN.{length, getD}
+use lib.ListN.{length}
 use borrow.Author.Tests.{ltb-true, ltb-false, lt-ltb, le-ltb}
-use Rattle.rules.specs.Lists.{occ, In, place, Falling, below, select, any, best, insertBefore, delete}
+use Rattle.rules.specs.Lists.{occ, In, place, Falling, below, best, insertBefore, delete}
 use Rattle.rules.specs.Machine.{Machine, taskOf, prioOf, row, flag, head, running, rowLevel, level, levelOf, allowed, runnable, taskPlaces}
-use Rattle.rules.specs.Machine.{queued, enqueue, dequeue, withRow}
+use Rattle.rules.specs.Machine.{queued, enqueue, dequeue}
 use Rattle.rules.specs.WellFormed.{WellFormed}
 use Rattle.rules.specs.Migration.{Move, Chosen, waiting, allowedCpus, lower, movable, movables, outranks, mover, idler, destination, orZero, moveOf, nextOf, next, migrate}
-use Rattle.rules.proofs.Lists.{same?, occ-cons, digit-same, in-here, in-there, in-cons, not-in-nil, in-delete, delete-behind, in-below, below-in, select-in, in-select}
-use Rattle.rules.proofs.Lists.{any-some, some-any, in-tails, tails-in, falling-head, best-in, best-best, best-none, best-some}
+use Rattle.rules.proofs.Lists.{same?, occ-cons, digit-same, in-there, in-cons, not-in-nil, in-delete, delete-behind, in-below, below-in, select-in, in-select}
+use Rattle.rules.proofs.Lists.{any-some, some-any, in-tails, tails-in, best-in, best-best, best-none, best-some}
 use Rattle.rules.proofs.Order.{place-there, place-same, place-from, place-select, place-tails, best-first}
 use Rattle.rules.proofs.Rows.{row-same, row-other}
-use Rattle.rules.proofs.Apart.{in-row, once, runnable-place, runnable-fit, Apart, room}
+use Rattle.rules.proofs.Apart.{in-row, once, runnable-place, runnable-fit, room}
 use Rattle.rules.proofs.Effects.{keep-move, apart-home}
 
 -- ---- allowed CPUs
