@@ -19,7 +19,8 @@ use Rattle.rules.specs.Cases.{played}
 use Rattle.rules.specs.Demand3.{Demand3, Outdone}
 use Rattle.rules.proofs.Checks.{outcome-accepted}
 use Rattle.rules.proofs.Effects.{keep-effect, fresh-well-formed}
-use Rattle.rules.proofs.Step.{movable-by, none-movable, running-level}
+use Rattle.rules.proofs.Choice.{movable-by, none-movable}
+use Rattle.rules.proofs.Step.{running-level}
 use Rattle.rules.proofs.Runs.{settle-run, settle-ends, run-few, run-movers, run-receivers, run-falling, run-movers-run, run-well-formed}
 
 -- where no task is movable, no waiting task is higher than what runs on a CPU it is allowed

@@ -7,6 +7,8 @@ pub mod Apart
 pub mod Checks
 pub mod Effects
 pub mod Order
+pub mod Best
+pub mod Choice
 pub mod Step
 pub mod Runs
 pub mod Demand3

@@ -12,7 +12,8 @@ use Rattle.rules.specs.WellFormed.{WellFormed}
 use Rattle.rules.specs.Migration.{Move, next}
 use Rattle.rules.proofs.Lists.{in-here, pigeonhole}
 use Rattle.rules.proofs.Apart.{apart-idle, apart-dequeue, room, in-row, once, runnable-place}
-use Rattle.rules.proofs.Step.{chosen, step-room}
+use Rattle.rules.proofs.Choice.{chosen}
+use Rattle.rules.proofs.Step.{step-room}
 
 -- W3's counts: no row has more than 512 tasks
 pub row-fits : (m : Machine) (c : ℕ) → WellFormed m → length (row m c) ≤ taskPlaces

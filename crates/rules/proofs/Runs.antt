@@ -15,7 +15,8 @@ use Rattle.rules.specs.Migration.{Move, Chosen, Settled, onward, next, m
 use Rattle.rules.specs.Demand3.{movers, receivers}
 use Rattle.rules.proofs.Lists.{same?, digit-same, digit-other, occ-cons, occ-nil, in-here, in-cons, not-in-nil, in-tails, pigeonhole}
 use Rattle.rules.proofs.Apart.{in-row, once}
-use Rattle.rules.proofs.Step.{chosen, Cap, cap-step, keep-step, origin-small, origin-level, target-level, target-runs, same-runs, levels-rise}
+use Rattle.rules.proofs.Choice.{chosen}
+use Rattle.rules.proofs.Step.{Cap, cap-step, keep-step, origin-small, origin-level, target-level, target-runs, same-runs, levels-rise}
 use Rattle.rules.proofs.Step.{level-running}
 
 -- `Run k m l e`: from m, with at most k steps, the steps l lead to e, where none applies or the k are used up
