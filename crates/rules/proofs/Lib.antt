@@ -16,6 +16,7 @@ pub mod Room
 pub mod Test
 pub mod Tables
 pub mod Record
+pub mod Finder
 pub mod Log
 pub mod Entry
 pub mod LentCase
