@@ -91,6 +91,15 @@ outcome-answer m e = go (refusal m e)
     go zero = refl
     go (suc r) = refl
 
+-- the count is the number of log entries
+pub outcome-moves : (m : Machine) (e : Event) → outcome m e .moves ≡ length (outcome m e .log)
+unfolding outcome
+outcome-moves m e = go (refusal m e)
+  where
+    go : (r : ℕ) → answered r e m .moves ≡ length (answered r e m .log)
+    go zero = refl
+    go (suc r) = refl
+
 -- a number that is no kind
 pub no-kind : (k : ℕ) → length kinds < k → kindOf k ≡ none
 no-kind zero h = absurd (not-suc-le-zero h)

@@ -10,28 +10,28 @@ use lib.Dec.{eqb}
 use lib.ListN.{length, replicate, length-map, length-replicate}
 use borrow.Author.Tests.{eqb-true, eq-eqb, not-false}
 use Rattle.bits.proofs.Tests.{and-both}
-use Rattle.cpupri.specs.Record.{recordOf}
+use Rattle.cpupri.specs.Record.{recordOf, freshLevels}
 use Rattle.cpupri.specs.declared.record.Record.{Record}
 use Rattle.rules.specs.Machine.{Machine, Column, taskOf, row, fresh, levels, taskPlaces, cpuPlaces, runnable, rr, fullSlice}
 use Rattle.rules.specs.Machine.{allows, lowestAllowed, store, enqueue, dequeue, requeue}
 use Rattle.rules.specs.WellFormed.{Shape, WellFormed, wellFormed}
 use Rattle.rules.specs.Events.{Event, Kind, effect, effectOf, tickedTask, toFirst}
 use Rattle.rules.specs.Events.{add, remove, wake, sleep, set-priority, set-affinity, tick, yield, set-ordinary}
-use Rattle.rules.specs.Refusals.{Passes, refusal}
+use Rattle.rules.specs.Refusals.{Passes, refusal, firstFailing, badSize}
 use Rattle.rules.specs.Outcome.{Outcome, outcome, logged}
 use Rattle.rules.specs.Demand3.{Demand3}
 use Rattle.rules.specs.Tables.{Tables, machineOf, tablesOf, lengthsFit, tablesFit, recordFits, flatOf, rowCounts, storedRows, Stored, nothing, logPlaces}
 use Rattle.rules.specs.Entry.{Result, kept, written, sizeCheck, formCheck, checked, orElse, eventAnswer, made, madeBy, handled, handledBy}
 use Rattle.rules.proofs.Bools.{both}
 use Rattle.rules.proofs.Apart.{in-row, runnable-place}
-use Rattle.rules.proofs.Checks.{Accepted, accepted-checks, effect-is, outcome-accepted, passes, passed}
+use Rattle.rules.proofs.Checks.{Accepted, accepted-checks, effect-is, outcome-accepted, outcome-moves, passes, passed}
 use Rattle.rules.proofs.Effects.{fresh-well-formed}
 use Rattle.rules.proofs.Runs.{settle-run, run-n}
 use Rattle.rules.proofs.Demand3.{demand3}
 use Rattle.rules.proofs.Room.{row-fits}
 use Rattle.rules.proofs.Test.{size-good, good-size, shape-shaped, test-well-formed, well-formed-test}
 use Rattle.rules.proofs.Tables.{length-rowsOf, Fitting, length-flat, read-written, written-stored, test-stored, stored-test}
-use Rattle.rules.proofs.Record.{record-is, is-record}
+use Rattle.rules.proofs.Record.{record-is, is-record, levels-fresh}
 use Rattle.rules.proofs.Log.{length-logged}
 
 -- ---- what the check says
@@ -173,10 +173,23 @@ module _ (m : Machine) (w : WellFormed m) (log : List ℕ) where
 
 -- ---- make a fresh machine
 
+-- refused only with 1, and then all is as it was lent
+pub made-refused : (n : ℕ) (r : Record) (s : Tables) → lengthsFit n s ≡ false → made n r s ≡ kept badSize r s
+unfolding made firstFailing
+made-refused n r s h = ap (λ (b : Bool). madeBy (cond (not b) badSize 0) n r s) h
+
+-- else the fresh machine, with the fresh record, whatever was lent
+pub made-fresh : (n : ℕ) (r : Record) (s : Tables) → lengthsFit n s ≡ true → made n r s ≡ written 0 (fresh n) (replicate logPlaces nothing)
+unfolding made firstFailing
+made-fresh n r s h = ap (λ (b : Bool). madeBy (cond (not b) badSize 0) n r s) h
+
+pub made-record : (n : ℕ) (r : Record) (s : Tables) → lengthsFit n s ≡ true → made n r s .cpupri ≡ recordOf (freshLevels n)
+made-record n r s h =
+    ap (λ (q : Result). q .cpupri) (made-fresh n r s h) ∙ ap recordOf (levels-fresh n (lengths-shape n s h .0 .cpus))
+
 pub made-good : (n : ℕ) (r : Record) (s : Tables) → lengthsFit n s ≡ true → Good n (made n r s .cpupri) (made n r s .tables)
-unfolding made
 made-good n r s h =
-    subst (λ (a : ℕ). Good n (madeBy a n r s .cpupri) (madeBy a n r s .tables)) (sym (passed (sizeCheck n s ∷ []) (ap not h, tt)))
+    subst (λ (q : Result). Good n (q .cpupri) (q .tables)) (sym (made-fresh n r s h))
     (written-good (fresh n) (fresh-well-formed n (lengths-shape n s h .0 .some-cpu) (lengths-shape n s h .0 .cpus)) (replicate logPlaces nothing)
     (length-replicate logPlaces nothing))
 
@@ -233,6 +246,16 @@ answer-zero n r s e h = go (checked n r s) refl h
     go zero p h = (p, h)
     go (suc a) p h = absurd (omega arith)
 
+-- the answer is the first refusal that applies
+pub handled-answer : (n : ℕ) (r : Record) (s : Tables) (e : Event) → handled n r s e .answer ≡ eventAnswer n r s e
+unfolding handled
+handled-answer n r s e = go (eventAnswer n r s e)
+  where
+    go : (a : ℕ) → handledBy a n r s e .answer ≡ a
+    go zero = refl
+    go (suc a) = refl
+
+-- a refused event hands back what was lent
 pub handled-refused : (n : ℕ) (r : Record) (s : Tables) (e : Event) (a : ℕ) → eventAnswer n r s e ≡ suc a → handled n r s e ≡ kept (suc a) r s
 unfolding handled
 handled-refused n r s e a h = ap (λ (x : ℕ). handledBy x n r s e) h
@@ -260,11 +283,15 @@ module _ (n : ℕ) (r : Record) (s : Tables) (e : Event) (h : eventAnswer n r s 
   same-n : done .machine .n ≡ n
   same-n = outcome-n before e takes
 
+  pub start-n : effect e before .n ≡ n
+  start-n =
+      let a : Accepted before e = accepted-checks before e takes in
+      ap (λ (x : Machine). x .n) (effect-is before e a) ∙ effect-n (a .kind) e before
+
   -- the log has room: at most 63 moves
   log-fits : length (logged (done .log) (s .log)) ≡ logPlaces
   log-fits =
-      let a : Accepted before e = accepted-checks before e takes in
-      let start : effect e before .n ≡ n = ap (λ (x : Machine). x .n) (effect-is before e a) ∙ effect-n (a .kind) e before in
+      let start : effect e before .n ≡ n = start-n in
       let few : length (done .log) ≤ effect e before .n - 1 = after-demand .few in
       let small : n ≤ cpuPlaces = good-before .machine .shape .cpus in
       let long : length (s .log) ≡ logPlaces = good-before .log in
@@ -274,6 +301,12 @@ module _ (n : ℕ) (r : Record) (s : Tables) (e : Event) (h : eventAnswer n r s 
   written-after =
       subst (λ (k : ℕ). Good k (recordOf (levels (done .machine))) (tablesOf (done .machine) (logged (done .log) (s .log)))) same-n
       (written-good (done .machine) (after-demand .well-formed) (logged (done .log) (s .log)) log-fits)
+
+  pub handled-moves : handled n r s e .moves ≡ length (done .log)
+  handled-moves = ap (λ (q : Result). q .moves) handled-accepted ∙ outcome-moves before e
+
+  pub handled-log : handled n r s e .tables .log ≡ logged (done .log) (s .log)
+  handled-log = ap (λ (q : Result). q .tables .log) handled-accepted
 
   -- the tables and the record that come back pass the check again
   pub handled-good : Good n (handled n r s e .cpupri) (handled n r s e .tables)

@@ -1,7 +1,7 @@
 -- The finder answers the rules' questions: asked with the record of the machine's levels, it finds a level exactly if the task is movable, and
 -- the lowest set bit of its mask is then the destination.
 -- Assumes nothing.
-use mathlib.Core.Path.{_≡_, refl, sym, ap, _∙_, subst}
+use mathlib.Core.Path.{_≡_, refl, sym, _∙_, subst}
 use mathlib.Core.Bool.{Bool, true, false, false≢true}
 use Prim.Native.Nat.{ℕ, _≤_, _<_, _^_}
 use native.Mathlib.Nat.{lt-of-lt-of-le}
@@ -10,12 +10,12 @@ use lib.Dec.{ltb}
 use lib.ListN.{length, getD}
 use lib.Pow.{pow-mono}
 use borrow.Author.Tests.{ltb-true, ltb-false}
-use Rattle.bits.specs.Bit.{bit, lowest}
+use Rattle.bits.specs.Bit.{lowest}
 use Rattle.bits.proofs.Word.{bit-above}
 use Rattle.cpupri.specs.Level.{levelCount}
 use Rattle.cpupri.specs.Record.{masksOf}
 use Rattle.cpupri.specs.Found.{allowedAt, lowestLevel}
-use Rattle.cpupri.proofs.Found.{LowestCpu, found-some, found-cpu, cpu-lt, cpu-level}
+use Rattle.cpupri.proofs.Found.{LowestCpu, found-some, found-cpu, cpu-level}
 use Rattle.rules.specs.Machine.{Machine, taskOf, prioOf, level, levelOf, levels, allowed, cpuPlaces, highestPriority}
 use Rattle.rules.specs.WellFormed.{WellFormed, Fit}
 use Rattle.rules.specs.Migration.{movable, destination}

@@ -8,6 +8,7 @@ pub mod Checks
 pub mod Effects
 pub mod Order
 pub mod Best
+pub mod Entering
 pub mod Choice
 pub mod Step
 pub mod Runs
@@ -19,4 +20,5 @@ pub mod Record
 pub mod Finder
 pub mod Log
 pub mod Entry
+pub mod LentDemand3
 pub mod LentCase

@@ -10,3 +10,4 @@ pub mod Cases
 pub mod Demand3
 pub mod Tables
 pub mod Entry
+pub mod LentDemand3

@@ -1,0 +1,175 @@
+-- Demand 3 of what the caller holds after an accepted event.
+-- Assumes nothing.
+use mathlib.Core.Path.{_≡_, refl, sym, ap, _∙_, subst}
+use mathlib.Core.Bool.{true}
+use mathlib.Core.Logic.{_≢_}
+use mathlib.Core.List.{List, [], _∷_, tail}
+use mathlib.Core.Option.{some}
+use Prim.Native.Nat.{ℕ, zero, suc, _+_, _-_, _*_, _≤_, _<_}
+use native.Mathlib.Nat.{not-suc-le-zero, le-of-suc-le-suc}
+use native.Mathlib.Omega.{arith}
+use lib.ListN.{length, getD, drop, length-map, List·getD-map}
+use lib.Seq.{getD-take, getD-drop}
+use Rattle.bits.specs.Bit.{bit}
+use Rattle.cpupri.specs.declared.record.Record.{Record}
+use Rattle.rules.specs.Lists.{occ, In, Falling}
+use Rattle.rules.specs.Machine.{Machine, prioOf, row, head, running, taskPlaces}
+use Rattle.rules.specs.Events.{Event, effect}
+use Rattle.rules.specs.Migration.{Move, waiting}
+use Rattle.rules.specs.Outcome.{outcome, logged, entryWidth}
+use Rattle.rules.specs.Demand3.{Demand3, Outdone, movers, receivers}
+use Rattle.rules.specs.Tables.{Tables, machineOf, rowsOf}
+use Rattle.rules.specs.Entry.{Result, eventAnswer, handled}
+use Rattle.rules.specs.LentDemand3.{LentDemand3, moverAt, receiverAt, taskAt, Busy}
+use Rattle.rules.proofs.Lists.{in-getD, in-tails, occ-cons, digit-same}
+use Rattle.rules.proofs.Tables.{row-at, write-read, stored-test}
+use Rattle.rules.proofs.Log.{logged-entry, noMove}
+use Rattle.rules.proofs.Entry.{Good, good-checked, handled-good, handled-demand3, handled-moves, handled-log, start-n}
+
+-- ---- lists by their places
+
+-- what stands at two places occurs twice
+at-two : (xs : List ℕ) (i j : ℕ) → i < j → j < length xs → getD xs i 0 ≡ getD xs j 0 → 2 ≤ occ (getD xs i 0) xs
+at-two [] i j h l e = absurd (not-suc-le-zero l)
+at-two (x ∷ xs) i zero h l e = absurd (not-suc-le-zero h)
+at-two (x ∷ xs) zero (suc j) h l e =
+    let k : 0 < occ x xs = subst (λ (y : ℕ). In y xs) (sym e) (in-getD xs j (le-of-suc-le-suc l)) in
+    omega (arith, occ-cons x x xs, digit-same x x refl)
+at-two (x ∷ xs) (suc i) (suc j) h l e =
+    let ih : 2 ≤ occ (getD xs i 0) xs = at-two xs i j (le-of-suc-le-suc h) (le-of-suc-le-suc l) e in
+    omega (arith, occ-cons (getD xs i 0) x xs)
+
+once-each : (xs : List ℕ) → ((x : ℕ) → occ x xs ≤ 1) → (i j : ℕ) → i < j → j < length xs → getD xs i 0 ≢ getD xs j 0
+once-each xs h i j l k e = let two : 2 ≤ occ (getD xs i 0) xs = at-two xs i j l k e in omega (arith, h (getD xs i 0))
+
+falling-at : (p : ℕ → ℕ) (xs : List ℕ) → Falling p xs → (i j : ℕ) → i ≤ j → j < length xs → p (getD xs j 0) ≤ p (getD xs i 0)
+falling-at p [] f i j h l = absurd (not-suc-le-zero l)
+falling-at p (x ∷ xs) f zero zero h l = omega arith
+falling-at p (x ∷ xs) f zero (suc j) h l = f .0 (getD xs j 0) (in-getD xs j (le-of-suc-le-suc l))
+falling-at p (x ∷ xs) f (suc i) zero h l = absurd (not-suc-le-zero h)
+falling-at p (x ∷ xs) f (suc i) (suc j) h l = falling-at p xs (f .1) i j (le-of-suc-le-suc h) (le-of-suc-le-suc l)
+
+head-at : (xs : List ℕ) (t : ℕ) → head xs ≡ some t → (0 < length xs) × (getD xs 0 0 ≡ t)
+head-at [] t e = absurd (let z : _≡_ {A = ℕ} 0 1 = cc in omega arith)
+head-at (x ∷ xs) t e = let s : x ≡ t = cc in (omega arith, s)
+
+tail-at : (xs : List ℕ) (p : ℕ) → 0 < p → p < length xs → In (getD xs p 0) (tail xs)
+tail-at [] p h l = absurd (not-suc-le-zero l)
+tail-at (x ∷ xs) zero h l = absurd (not-suc-le-zero h)
+tail-at (x ∷ xs) (suc p) h l = in-getD xs p (le-of-suc-le-suc l)
+
+-- ---- rows by their places
+
+module _ (n : ℕ) (r : Record) (s : Tables) (g : Good n r s) where
+  row-length : (c : ℕ) → length (row (machineOf n s) c) ≡ getD (s .counts) c 0
+  row-length c =
+      sym (List·getD-map (λ (q : List ℕ). length q) (rowsOf (s .counts) (s .rows)) c [])
+      ∙ ap (λ (ks : List ℕ). getD ks c 0)
+      (write-read (s .counts) (s .rows) long (stored-test (s .counts) (s .rows) long (g .stored)) .1)
+    where
+      long : length (s .rows) ≡ taskPlaces * length (s .counts)
+      long = g .rows ∙ ap (λ (k : ℕ). taskPlaces * k) (sym (g .counts))
+
+  row-place : (c p : ℕ) → c < n → p < getD (s .counts) c 0 → getD (row (machineOf n s) c) p 0 ≡ taskAt s c p
+  row-place c p h l =
+      ap (λ (q : List ℕ). getD q p 0) (row-at (s .counts) (s .rows) c (subst (λ (k : ℕ). c < k) (sym (g .counts)) h))
+      ∙ getD-take (getD (s .counts) c 0) (drop (taskPlaces * c) (s .rows)) p 0 l
+      ∙ getD-drop (taskPlaces * c) (s .rows) p 0
+
+  -- a task that runs, by the tables
+  runs-at : (c t : ℕ) → running (machineOf n s) c ≡ some t → Busy s c × (taskAt s c 0 ≡ t)
+  runs-at c t e =
+      let k : (0 < length (row (machineOf n s) c)) × (getD (row (machineOf n s) c) 0 0 ≡ t) = head-at (row (machineOf n s) c) t e in
+      let busy : 0 < getD (s .counts) c 0 = omega (arith, row-length c, k .0) in
+      (busy, sym (row-place c 0 (subst (λ (k : ℕ). c < k) (g .counts) (counted (s .counts) c busy)) busy) ∙ k .1)
+    where
+      counted : (ks : List ℕ) (c : ℕ) → 0 < getD ks c 0 → c < length ks
+      counted [] c h = absurd (not-suc-le-zero h)
+      counted (k ∷ ks) zero h = omega arith
+      counted (k ∷ ks) (suc c) h = Prim.Native.Nat.suc-le-suc (counted ks c h)
+
+  -- a task that waits, by the tables
+  waits-at : (c p : ℕ) → c < n → 0 < p → p < getD (s .counts) c 0 → In (taskAt s c p) (waiting (machineOf n s))
+  waits-at c p h l k =
+      subst (λ (t : ℕ). In t (waiting (machineOf n s))) (row-place c p h k)
+      (in-tails (getD (row (machineOf n s) c) p 0) c (rowsOf (s .counts) (s .rows))
+      (tail-at (row (machineOf n s) c) p l (omega (arith, row-length c))))
+
+-- ---- the log by its numbers
+
+module _ (vs : List Move) (old : List ℕ) (s : Tables) (log : s .log ≡ logged vs old) where
+  mover-is : (i : ℕ) → i < length vs → moverAt s i ≡ getD (movers vs) i 0
+  mover-is i h =
+      ap (λ (l : List ℕ). getD l (entryWidth * i) 0) log ∙ logged-entry vs old i h .0
+      ∙ sym (List·getD-map (λ (v : Move). v .task) vs i noMove)
+
+  receiver-is : (i : ℕ) → i < length vs → receiverAt s i ≡ getD (receivers vs) i 0
+  receiver-is i h =
+      ap (λ (l : List ℕ). getD l (entryWidth * i + 2) 0) log ∙ logged-entry vs old i h .2
+      ∙ sym (List·getD-map (λ (v : Move). v .target) vs i noMove)
+
+-- ---- demand 3
+
+module _ (n : ℕ) (r : Record) (s : Tables) (e : Event) (h : eventAnswer n r s e ≡ 0) where
+  abbrev result : Result
+  result = handled n r s e
+
+  abbrev log : List Move
+  log = outcome (machineOf n s) e .log
+
+  abbrev start : Machine
+  start = effect e (machineOf n s)
+
+  pub handled-lent : LentDemand3 n (result .moves) (start .prio) (result .cpupri) (result .tables)
+  handled-lent =
+      record {
+        few = subst (λ (k : ℕ). result .moves ≤ k - 1) (start-n n r s e h) (subst (λ (k : ℕ). k ≤ start .n - 1) (sym count) (demand .few));
+        no-task-twice = λ i j l k q.
+            once-each (movers log) (demand .no-task-twice) i j l (movers-long j k) (sym (mover i (omega arith)) ∙ q ∙ mover j k);
+        no-cpu-twice = λ i j l k q.
+            once-each (receivers log) (demand .no-cpu-twice) i j l (receivers-long j k) (sym (receiver i (omega arith)) ∙ q ∙ receiver j k);
+        falling = λ i j l k.
+            let low : getD (start .prio) (getD (movers log) j 0) 0 ≤ getD (start .prio) (getD (movers log) i 0) 0 =
+            falling-at (prioOf start) (movers log) (demand .falling) i j l (movers-long j k) in
+            subst (λ (t : ℕ). getD (start .prio) (moverAt (result .tables) j) 0 ≤ getD (start .prio) t 0) (sym (mover i (omega arith)))
+            (subst (λ (t : ℕ). getD (start .prio) t 0 ≤ getD (start .prio) (getD (movers log) i 0) 0) (sym (mover j k)) low);
+        movers-run = λ i k.
+            runs-at n (result .cpupri) (result .tables) good (receiverAt (result .tables) i) (moverAt (result .tables) i)
+            (ap (running end) (receiver i k) ∙ demand .movers-run i (subst (λ (m : ℕ). i < m) count k) ∙ ap (λ (t : ℕ). some t) (sym (mover i k)));
+        settled = λ c p d l z k m a. settled c p d l z k m a;
+        well-formed = good-checked n (result .cpupri) (result .tables) good;
+      }
+    where
+      end : Machine
+      end = machineOf n (result .tables)
+
+      good : Good n (result .cpupri) (result .tables)
+      good = handled-good n r s e h
+
+      demand : Demand3 start log (machineOf n (result .tables))
+      demand = handled-demand3 n r s e h
+
+      count : result .moves ≡ length log
+      count = handled-moves n r s e h
+
+      mover : (i : ℕ) → i < result .moves → moverAt (result .tables) i ≡ getD (movers log) i 0
+      mover i k = mover-is log (s .log) (result .tables) (handled-log n r s e h) i (subst (λ (m : ℕ). i < m) count k)
+
+      receiver : (i : ℕ) → i < result .moves → receiverAt (result .tables) i ≡ getD (receivers log) i 0
+      receiver i k = receiver-is log (s .log) (result .tables) (handled-log n r s e h) i (subst (λ (m : ℕ). i < m) count k)
+
+      movers-long : (j : ℕ) → j < result .moves → j < length (movers log)
+      movers-long j k = subst (λ (m : ℕ). j < m) (count ∙ sym (length-map log (λ (v : Move). v .task))) k
+
+      receivers-long : (j : ℕ) → j < result .moves → j < length (receivers log)
+      receivers-long j k = subst (λ (m : ℕ). j < m) (count ∙ sym (length-map log (λ (v : Move). v .target))) k
+
+      settled : (c p d : ℕ) → c < n → 0 < p → p < getD (result .tables .counts) c 0 → d < n
+          → bit (getD (result .tables .mask) (taskAt (result .tables) c p) 0) d ≡ true
+          → Busy (result .tables) d
+          × (getD (result .tables .prio) (taskAt (result .tables) c p) 0 ≤ getD (result .tables .prio) (taskAt (result .tables) d 0) 0)
+      settled c p d l z k m a =
+          let o : Outdone (machineOf n (result .tables)) (taskAt (result .tables) c p) d =
+          demand .settled (taskAt (result .tables) c p) d (waits-at n (result .cpupri) (result .tables) good c p l z k) m a in
+          let u : Busy (result .tables) d × (taskAt (result .tables) d 0 ≡ o .0) = runs-at n (result .cpupri) (result .tables) good d (o .0) (o .1) in
+          (u .0, subst (λ (t : ℕ). getD (result .tables .prio) (taskAt (result .tables) c p) 0 ≤ getD (result .tables .prio) t 0) (sym (u .1)) (o .2))
