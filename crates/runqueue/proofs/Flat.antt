@@ -1,6 +1,6 @@
 -- One row within the flat table: the part that it is, and the table after that part has changed.
 -- Assumes nothing.
-use mathlib.Core.Path.{_≡_, refl, sym, ap, ap₂, _∙_, subst}
+use mathlib.Core.Path.{_≡_, refl, sym, ap, ap₂, _∙_, subst, subst₂}
 use mathlib.Core.List.{List, [], _∷_, _++_, map, append-assoc}
 use Prim.Native.Nat.{ℕ, zero, suc, _+_, _-_, _*_, _≤_, _<_}
 use native.Mathlib.Nat.{not-suc-le-zero, le-of-suc-le-suc}
@@ -47,8 +47,8 @@ flat-set (r ∷ rs) zero q f h =
 flat-set (r ∷ rs) (suc c) q f h =
     let size : length (padded r) ≡ taskPlaces = length-padded r (f zero) in
     let front : take (taskPlaces + taskPlaces * c) (flatOf (r ∷ rs)) ≡ padded r ++ take (taskPlaces * c) (flatOf rs) =
-        ap (take (taskPlaces + taskPlaces * c)) (flat-cons r rs) ∙ ap (λ (k : ℕ). take (k + taskPlaces * c) (padded r ++ flatOf rs)) (sym size)
-        ∙ take-append-add (padded r) (flatOf rs) (taskPlaces * c) in
+    ap (take (taskPlaces + taskPlaces * c)) (flat-cons r rs) ∙ ap (λ (k : ℕ). take (k + taskPlaces * c) (padded r ++ flatOf rs)) (sym size)
+    ∙ take-append-add (padded r) (flatOf rs) (taskPlaces * c) in
     ap (λ (k : ℕ). take k (flatOf (r ∷ rs)) ++ (padded q ++ drop taskPlaces (drop k (flatOf (r ∷ rs))))) (next-start c)
     ∙ ap₂ (λ (a b : List ℕ). a ++ (padded q ++ drop taskPlaces b)) front (past-first r rs (taskPlaces * c) (f zero))
     ∙ append-assoc (padded r) (take (taskPlaces * c) (flatOf rs)) (padded q ++ drop taskPlaces (drop (taskPlaces * c) (flatOf rs)))
@@ -117,5 +117,12 @@ holds-written rs f =
     record {
       fits = subst (λ (l : List (List ℕ)). Fitting l) (sym back) f;
       counted = ap rowCounts (sym back);
-      written = ap flatOf (sym back)
+      written = ap flatOf (sym back);
     }
+
+-- as the code counts: the start is c * 512, and the part ends 512 places on
+pub as-counted : (c : ℕ) (P : ℕ → ℕ → Type 0) → P (taskPlaces * c) taskPlaces → P (c * 512) (c * 512 + 512 - c * 512)
+as-counted c P p =
+    let start : taskPlaces * c ≡ c * 512 = omega arith in
+    let size : taskPlaces ≡ c * 512 + 512 - c * 512 = omega arith in
+    subst₂ P start size p

@@ -27,6 +27,7 @@ head-or-behind x y ys i = go (eqb x y) refl
     behind : x ≢ y → (x ≡ y) ⊎ In x ys → In x ys
     behind d (inl e) = absurd (d e)
     behind d (inr j) = j
+
     go : (b : Bool) → eqb x y ≡ b → (x ≡ y) ⊎ ((x ≢ y) × In x ys)
     go true e = inl (eqb-true x y e)
     go false e = let d : x ≢ y = eqb-false x y e in inr (d, behind d (in-cons x y ys i))
@@ -75,6 +76,7 @@ delete-after x (y ∷ ys) k i h = go (eqb x y) refl k h (delete-after x ys)
         skip : (x ≡ y) ⊎ In x ys → In x ys
         skip (inl q) = absurd (eqb-false x y e q)
         skip (inr j) = j
+
     go : (b : Bool) → eqb x y ≡ b → (k : ℕ) → cond b 0 (suc (place x ys)) ≤ k
         → ((k : ℕ) → In x ys → place x ys ≤ k → getD (delete x ys) k 0 ≡ getD ys (suc k) 0)
         → getD (cond b ys (y ∷ delete x ys)) k 0 ≡ getD ys k 0

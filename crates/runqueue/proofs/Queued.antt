@@ -77,14 +77,15 @@ module _ (count : ℕ) (xs : List ℕ) (held : HoldsRow count xs) where
         ext-getD 0 (set ys at task) (padded (insertBefore p task (take count xs)))
         (length-set ys at task ∙ o .size ∙ row-size ∙ sym (length-padded (insertBefore p task (take count xs)) (omega (arith, joined-size))))
         (λ k h. let l : k < taskPlaces = omega (arith, length-set ys at task, o .size, row-size) in
-          stored ys at task k (getD (padded (insertBefore p task (take count xs))) k 0) (omega (arith, o .size, row-size, at-most))
-          (λ q. sym (padded-in (insertBefore p task (take count xs)) k (omega (arith, joined-size, at-most)) ∙ ap (λ (j : ℕ). getD (insertBefore p task (take count xs)) j 0) q ∙ insert-at p task (take count xs)))
-          (λ d. go k l d (ltb k at) refl (ltb count k) refl))
+        stored ys at task k (getD (padded (insertBefore p task (take count xs))) k 0) (omega (arith, o .size, row-size, at-most))
+        (λ q. sym (padded-in (insertBefore p task (take count xs)) k (omega (arith, joined-size, at-most)) ∙ ap (λ (j : ℕ). getD (insertBefore p task (take count xs)) j 0) q ∙ insert-at p task (take count xs)))
+        (λ d. go k l d (ltb k at) refl (ltb count k) refl))
       where
         later : (k : ℕ) → at < k → k ≤ count → getD ys k 0 ≡ getD (insertBefore p task (take count xs)) k 0
         later zero h l = absurd (native.Mathlib.Nat.not-suc-le-zero h)
         later (suc j) h l =
             o .moved j (omega arith) (omega arith) ∙ in-queue j (omega arith) ∙ sym (insert-after p task (take count xs) j (omega arith))
+
         go : (k : ℕ) → k < taskPlaces → (k ≡ at → ⊥) → (b : Bool) → ltb k at ≡ b → (b′ : Bool) → ltb count k ≡ b′
             → getD ys k 0 ≡ getD (padded (insertBefore p task (take count xs))) k 0
         go k h d true e b′ e′ =

@@ -41,17 +41,21 @@ down-step at i xs ys h l d =
       size = length-set ys (i - 1) (getD ys i 0) ∙ d .size;
       before = λ k b. stored ys (i - 1) (getD ys i 0) k (getD xs k 0) room (λ q. absurd (apart k b q)) (λ q. d .before k b);
       moved = λ k b e. stored ys (i - 1) (getD ys i 0) k (getD xs (suc k) 0) room (λ q. d .after i (omega arith) ∙ ap (λ (j : ℕ). getD xs j 0) (next k q)) (λ q. d .moved k b (other k e q));
-      after = λ k b. stored ys (i - 1) (getD ys i 0) k (getD xs k 0) room (λ q. absurd (past k b q)) (λ q. d .after k (omega arith))
+      after = λ k b. stored ys (i - 1) (getD ys i 0) k (getD xs k 0) room (λ q. absurd (past k b q)) (λ q. d .after k (omega arith));
     }
   where
     room : i - 1 < length ys
     room = omega (arith, d .size)
+
     apart : (k : ℕ) → k < at → k ≡ i - 1 → ⊥
     apart k b q = omega arith
+
     next : (k : ℕ) → k ≡ i - 1 → i ≡ suc k
     next k q = omega arith
+
     other : (k : ℕ) → suc k < i + 1 → k ≢ i - 1 → suc k < i
     other k e q = omega arith
+
     past : (k : ℕ) → i + 1 ≤ suc k → k ≡ i - 1 → ⊥
     past k b q = omega arith
 
@@ -62,15 +66,18 @@ down-end at i count xs ys h l e d =
       before = λ k b. stored ys (count - 1) nothing k (getD xs k 0) room (λ q. absurd (apart k b q)) (λ q. d .before k b);
       moved = λ k b m. stored ys (count - 1) nothing k (getD xs (suc k) 0) room (λ q. absurd (inside k m q)) (λ q. d .moved k b (omega arith));
       last = λ k q. stored ys (count - 1) nothing k nothing room (λ p. refl) (λ p. absurd (p (omega arith)));
-      after = λ k b. stored ys (count - 1) nothing k (getD xs k 0) room (λ q. absurd (past k b q)) (λ q. d .after k (omega arith))
+      after = λ k b. stored ys (count - 1) nothing k (getD xs k 0) room (λ q. absurd (past k b q)) (λ q. d .after k (omega arith));
     }
   where
     room : count - 1 < length ys
     room = omega (arith, d .size)
+
     apart : (k : ℕ) → k < at → k ≡ count - 1 → ⊥
     apart k b q = omega arith
+
     inside : (k : ℕ) → suc k < count → k ≡ count - 1 → ⊥
     inside k m q = omega arith
+
     past : (k : ℕ) → count ≤ k → k ≡ count - 1 → ⊥
     past k b q = omega arith
 
@@ -94,17 +101,21 @@ up-step count i xs ys h l s u =
       size = length-set ys i (getD ys (i - 1) 0) ∙ u .size;
       before = λ k b. stored ys i (getD ys (i - 1) 0) k (getD xs k 0) room (λ q. absurd (apart k b q)) (λ q. u .before k (omega arith));
       moved = λ k b e. stored ys i (getD ys (i - 1) 0) (suc k) (getD xs k 0) room (λ q. u .before (i - 1) (omega arith) ∙ ap (λ (j : ℕ). getD xs j 0) (here k q)) (λ q. u .moved k (other k b q) e);
-      after = λ k b. stored ys i (getD ys (i - 1) 0) k (getD xs k 0) room (λ q. absurd (past k b q)) (λ q. u .after k b)
+      after = λ k b. stored ys i (getD ys (i - 1) 0) k (getD xs k 0) room (λ q. absurd (past k b q)) (λ q. u .after k b);
     }
   where
     room : i < length ys
     room = omega (arith, u .size)
+
     apart : (k : ℕ) → k ≤ i - 1 → k ≡ i → ⊥
     apart k b q = omega arith
+
     here : (k : ℕ) → suc k ≡ i → i - 1 ≡ k
     here k q = omega arith
+
     other : (k : ℕ) → i - 1 ≤ k → suc k ≢ i → i ≤ k
     other k b q = omega arith
+
     past : (k : ℕ) → count < k → k ≡ i → ⊥
     past k b q = omega arith
 

@@ -2,5 +2,4 @@
 // them runs, and unused places hold 65535. All rows stand in one table, row c from place 512 * c on,
 // with a count for each.
 pub mod row;
-
 pub mod table;

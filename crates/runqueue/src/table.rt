@@ -36,6 +36,12 @@ pub fn enqueue(rows: &mut [u16], counts: &mut [u16], prio: &[u8], cpu: usize, ta
     let start = cpu * row::PLACES;
     let count = counts[cpu] as usize;
     let priority = prio[task as usize];
-    row::insert(&mut rows[start..start + row::PLACES], prio, count, task, priority);
+    row::insert(
+        &mut rows[start..start + row::PLACES],
+        prio,
+        count,
+        task,
+        priority,
+    );
     counts[cpu] = (count + 1) as u16;
 }

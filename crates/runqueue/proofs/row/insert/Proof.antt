@@ -24,8 +24,7 @@ rank-requires c κs =
 shift-up-requires : tie.Need-shift-up-requires
 shift-up-requires c κs =
     let a = c .before .before .before .before .before .args in
-    let p = c .before .before .before .before .before .pre in
-    (
+    let p = c .before .before .before .before .before .pre in (
       omega (arith, c .before .rank .ensures, at-most (a .count) (a .row .now) (p .0) (λ (u : ℕ). ltb (getD (a .prio .now) u 0) (a .priority)) (a .task) (p .1 .0)),
       omega (arith, row-size (a .count) (a .row .now) (p .0), p .1 .0),
     )
@@ -54,7 +53,7 @@ returns c =
     let rank : c .before .before .before .before .rank .result ≡ ahead test (take (a .count) (a .row .now)) = c .before .before .before .before .rank .ensures in
     ap (λ (k : ℕ). set ys k (a .task)) rank
     ∙ opened-is (a .count) (a .row .now) (p .0) test (a .task) (p .1 .0) ys
-      (subst (λ (k : ℕ). Opened k (a .count) (a .row .now) ys) rank (c .before .before .shift-up .ensures))
+    (subst (λ (k : ℕ). Opened k (a .count) (a .row .now) ys) rank (c .before .before .shift-up .ensures))
     ∙ ap (λ (v : ℕ). padded (insertBefore (λ (u : ℕ). ltb (getD (a .prio .now) u 0) v) (a .task) (take (a .count) (a .row .now)))) (sym (p .1 .1 .1 .1 .1))
 
 pub insert-spec : {M : Type 1} → statement M

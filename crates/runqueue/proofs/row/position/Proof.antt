@@ -44,7 +44,7 @@ later c =
     let xs = take (a .count) (a .row .now) in
     let in-reach = within (a .row .now) (a .count) (a .task) (c .before .before .before .pre .0) (c .before .before .before .pre .1) in
     let differs : at ≢ place (a .task) xs =
-        λ e. c .if1 .taken (sym (getD-take (a .count) (a .row .now) at 0 (omega arith)) ∙ ap (λ (k : ℕ). getD xs k 0) e ∙ place-is (a .task) xs (c .before .before .before .pre .1)) in
+    λ e. c .if1 .taken (sym (getD-take (a .count) (a .row .now) at 0 (omega arith)) ∙ ap (λ (k : ℕ). getD xs k 0) e ∙ place-is (a .task) xs (c .before .before .before .pre .1)) in
     lt-of-le-ne (c .before .before .loop .inv) differs
 
 loop-holds : tie.Need-loop-holds Inv-loop μ-loop

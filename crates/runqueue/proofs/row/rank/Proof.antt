@@ -42,10 +42,11 @@ rank-is row prio count priority at h f l lower high =
   where
     size : length (take count row) ≡ count
     size = length-take-le count row h
+
     not-lower : (k : ℕ) → k < at → priority ≤ getD prio (getD (take count row) k 0) 0
     not-lower k b =
         let falls : getD prio (getD (take count row) (at - 1) 0) 0 ≤ getD prio (getD (take count row) k 0) 0 =
-            falling-at (λ (u : ℕ). getD prio u 0) (take count row) f k (at - 1) (omega arith) (omega (arith, size)) in
+        falling-at (λ (u : ℕ). getD prio u 0) (take count row) f k (at - 1) (omega arith) (omega (arith, size)) in
         let same : getD (take count row) (at - 1) 0 ≡ getD row (at - 1) 0 = getD-take count row (at - 1) 0 (omega arith) in
         let named : getD prio (getD (take count row) (at - 1) 0) 0 ≡ getD prio (getD row (at - 1) 0) 0 = ap (λ (u : ℕ). getD prio u 0) same in
         let top : priority ≤ getD prio (getD row (at - 1) 0) 0 = high (omega arith) in

@@ -19,8 +19,7 @@ position-requires c κs =
 shift-down-requires : tie.Need-shift-down-requires
 shift-down-requires c κs =
     let a = c .before .before .before .before .args in
-    let p = c .before .before .before .before .pre in
-    (
+    let p = c .before .before .before .before .pre in (
       omega (arith, c .before .position .ensures, place-below (a .count) (a .row .now) (p .0) (a .task) (p .1)),
       omega (arith, row-size (a .count) (a .row .now) (p .0), p .0 .most),
     )
