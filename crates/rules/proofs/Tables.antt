@@ -2,15 +2,14 @@
 -- and W3 imply each other.
 -- Assumes nothing.
 use mathlib.Core.Path.{_≡_, refl, sym, ap, ap₂, _∙_, subst}
-use mathlib.Core.Bool.{Bool, true, false, _&&_, true≢false, false≢true}
-use mathlib.Core.Logic.{_≢_, _⊎_, inl, inr}
-use mathlib.Core.List.{List, [], _∷_, _++_, map, append-assoc}
+use mathlib.Core.Bool.{true}
+use mathlib.Core.List.{List, [], _∷_, _++_, append-assoc}
 use Prim.Native.Nat.{ℕ, zero, suc, _+_, _-_, _*_, _≤_, _<_, zero-le, suc-le-suc}
-use native.Mathlib.Nat.{not-suc-le-zero, le-of-suc-le-suc, zero-lt-suc, suc-sub-suc, mul-suc}
+use native.Mathlib.Nat.{not-suc-le-zero, le-of-suc-le-suc, zero-lt-suc, suc-sub-suc}
 use native.Mathlib.Omega.{arith}
 use lib.Dec.{eqb, ltb}
-use lib.ListN.{length, getD, take, drop, replicate, length-append, length-replicate, length-take, length-drop, take-append-drop, List·getD-eq-default, getD-replicate}
-use lib.Seq.{take-take, drop-drop, take-at, drop-at, getD-drop, getD-take, take-nil, length-take-le}
+use lib.ListN.{length, getD, take, drop, replicate, length-append, length-replicate, length-drop, take-append-drop, set}
+use lib.Seq.{take-take, drop-drop, take-at, drop-at, getD-drop, getD-take, length-take-le, drop-append-add, take-append-add}
 use borrow.Author.Tests.{eqb-true, eq-eqb, ltb-true, lt-ltb}
 use Rattle.bits.proofs.Tests.{and-both}
 use Rattle.rules.specs.Lists.{In, joined}
@@ -78,6 +77,44 @@ read-written (r ∷ rs) f =
     ap₂ (λ (a : List ℕ) (b : List (List ℕ)). a ∷ b) (ap (take (length r)) (flat-cons r rs) ∙ take-padded r (flatOf rs))
     (ap (rowsOf (rowCounts rs)) (ap (drop taskPlaces) (flat-cons r rs) ∙ drop-at (padded r) (flatOf rs) taskPlaces (length-padded r (f zero)))
     ∙ read-written rs (λ c. f (suc c)))
+
+-- ---- one row of the flat table
+
+-- the 512 places of row c
+pub flat-row : (rs : List (List ℕ)) → Fitting rs → (c : ℕ) → c < length rs → take taskPlaces (drop (taskPlaces * c) (flatOf rs)) ≡ padded (getD rs c [])
+flat-row [] f c h = absurd (not-suc-le-zero h)
+flat-row (r ∷ rs) f zero h = ap (take taskPlaces) (flat-cons r rs) ∙ take-at (padded r) (flatOf rs) taskPlaces (length-padded r (f zero))
+flat-row (r ∷ rs) f (suc c) h =
+    let next : taskPlaces * suc c ≡ length (padded r) + taskPlaces * c = omega (arith, length-padded r (f zero)) in
+    ap (take taskPlaces)
+    (ap₂ (λ (n : ℕ) (l : List ℕ). drop n l) next (flat-cons r rs) ∙ drop-append-add (padded r) (flatOf rs) (taskPlaces * c))
+    ∙ flat-row rs (λ d. f (suc d)) c (le-of-suc-le-suc h)
+
+-- another row c: its 512 places change, and no other
+pub flat-set : (rs : List (List ℕ)) → Fitting rs → (c : ℕ) (r : List ℕ) → c < length rs
+    → flatOf (set rs c r) ≡ take (taskPlaces * c) (flatOf rs) ++ (padded r ++ drop (taskPlaces * c + taskPlaces) (flatOf rs))
+flat-set [] f c r h = absurd (not-suc-le-zero h)
+flat-set (q ∷ rs) f zero r h =
+    flat-cons r rs
+    ∙ ap (λ (l : List ℕ). padded r ++ l) (sym (ap (drop taskPlaces) (flat-cons q rs) ∙ drop-at (padded q) (flatOf rs) taskPlaces (length-padded q (f zero))))
+flat-set (q ∷ rs) f (suc c) r h =
+    let long : length (padded q) ≡ taskPlaces = length-padded q (f zero) in
+    let at : taskPlaces * suc c ≡ length (padded q) + taskPlaces * c = omega arith in
+    let after : taskPlaces * suc c + taskPlaces ≡ length (padded q) + (taskPlaces * c + taskPlaces) = omega arith in
+    let front : take (taskPlaces * suc c) (flatOf (q ∷ rs)) ≡ padded q ++ take (taskPlaces * c) (flatOf rs) =
+    ap₂ (λ (n : ℕ) (l : List ℕ). take n l) at (flat-cons q rs) ∙ take-append-add (padded q) (flatOf rs) (taskPlaces * c) in
+    let back : drop (taskPlaces * suc c + taskPlaces) (flatOf (q ∷ rs)) ≡ drop (taskPlaces * c + taskPlaces) (flatOf rs) =
+    ap₂ (λ (n : ℕ) (l : List ℕ). drop n l) after (flat-cons q rs) ∙ drop-append-add (padded q) (flatOf rs) (taskPlaces * c + taskPlaces) in
+    flat-cons q (set rs c r)
+    ∙ ap (λ (l : List ℕ). padded q ++ l) (flat-set rs (λ d. f (suc d)) c r (le-of-suc-le-suc h))
+    ∙ sym (append-assoc (padded q) (take (taskPlaces * c) (flatOf rs)) (padded r ++ drop (taskPlaces * c + taskPlaces) (flatOf rs)))
+    ∙ ap₂ (λ (x y : List ℕ). x ++ (padded r ++ y)) (sym front) (sym back)
+
+-- and its count alone
+pub counts-set : (rs : List (List ℕ)) (c : ℕ) (r : List ℕ) → rowCounts (set rs c r) ≡ set (rowCounts rs) c (length r)
+counts-set [] c r = refl
+counts-set (q ∷ rs) zero r = refl
+counts-set (q ∷ rs) (suc c) r = ap (λ (l : List ℕ). length q ∷ l) (counts-set rs c r)
 
 -- ---- one stored row
 
