@@ -6,7 +6,7 @@ use Prim.Native.Nat.{ℕ, zero, suc, _+_, _-_, _*_, _≤_, _<_}
 use native.Mathlib.Nat.{not-suc-le-zero, le-of-suc-le-suc}
 use native.Mathlib.Omega.{arith}
 use lib.ListN.{length, getD, set, take, drop, replicate, length-map, take-append-drop}
-use lib.Seq.{take-append-add, drop-append-add, take-at, drop-at, length-take-le}
+use lib.Seq.{take-append-add, drop-append-add, take-at, drop-at, getD-drop, getD-take}
 use Rattle.rules.specs.Lists.{In, joined}
 use Rattle.rules.specs.Machine.{taskPlaces}
 use Rattle.rules.specs.Tables.{nothing, rowsOf, padded, flatOf, rowCounts}
@@ -109,6 +109,15 @@ module _ (counts rows : List ℕ) (held : HoldsRows counts rows) (c : ℕ) (hc :
 
   pub counts-become : (q : List ℕ) → set counts c (length q) ≡ rowCounts (rowsWith counts rows c q)
   counts-become q = ap (λ (ks : List ℕ). set ks c (length q)) (held .counted) ∙ counts-set (rowsOf counts rows) c q
+
+  -- the first place of a row that is not empty is its first task
+  pub first-place : (u : ℕ) (us : List ℕ) → rowAt counts rows c ≡ u ∷ us → getD rows (c * taskPlaces) 0 ≡ u
+  unfolding padded
+  first-place u us e =
+      let start : taskPlaces * c + 0 ≡ c * taskPlaces = omega arith in
+      ap (λ (i : ℕ). getD rows i 0) (sym start) ∙ sym (getD-drop (taskPlaces * c) rows 0 0)
+      ∙ sym (getD-take taskPlaces (drop (taskPlaces * c) rows) 0 0 (omega arith))
+      ∙ ap (λ (l : List ℕ). getD l 0 0) (part-row ∙ ap padded e)
 
 -- what is written is held
 pub holds-written : (rs : List (List ℕ)) → Fitting rs → HoldsRows (rowCounts rs) (flatOf rs)
