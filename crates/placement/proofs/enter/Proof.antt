@@ -1,0 +1,168 @@
+-- `placement::enter` meets its contract. Assumes nothing.
+use borrow.Author.Needs.{needs}
+use mathlib.Core.Path.{_≡_, refl, sym, ap, _∙_, subst}
+use mathlib.Core.Bool.{Bool, true}
+use mathlib.Core.List.{List, []}
+use Prim.Native.Nat.{ℕ, suc, _*_, _≤_, _<_}
+use native.Mathlib.Omega.{arith}
+use lib.Dec.{ltb}
+use lib.ListN.{length, getD, set, length-set}
+use Rattle.cpupri.specs.Level.{known}
+use Rattle.cpupri.specs.Record.{recordOf}
+use Rattle.cpupri.specs.declared.record.Record.{Record}
+use Rattle.cpupri.proofs.Whole.{level-known}
+use Rattle.rules.specs.Lists.{In, Falling}
+use Rattle.rules.specs.Machine.{Machine, row, prioOf, flag, levels, levelOf, rowLevel, withRow, enqueue, queued, taskPlaces, highestPriority}
+use Rattle.rules.specs.Tables.{flatOf, rowCounts}
+use Rattle.rules.proofs.Lists.{length-insert}
+use Rattle.rules.proofs.Rows.{row-same}
+use Rattle.runqueue.specs.Table.{rowAt, rowsWith}
+use Rattle.runqueue.proofs.Flat.{rows-fit}
+use Rattle.placement.specs.Held.{InOrder, Held, Entering}
+use Rattle.placement.proofs.Levels.{row-level-known}
+use Rattle.placement.proofs.Order.{holds, read-row, whole, cpus-counted, fine-queued, held-row, levels-set, above, level-first, first-in}
+use Rattle.placement.proofs.enter.Statement.{statement}
+use Rattle.placement.proofs.enter.Tie as tie
+
+module _ {ps ks flat : List ℕ} {r : Record} {t c : ℕ} (m : Machine) (l : Entering m ps ks flat r t c) where
+  abbrev joined : List ℕ
+  joined = queued (prioOf m) t (row m c)
+
+  -- the machine with the task in the row; its CPU column is apart
+  abbrev entered : Machine
+  entered = withRow c joined m
+
+  row-is : rowAt ks flat c ≡ row m c
+  row-is = read-row m ps ks flat r (l .held) c
+
+  joinable : Falling (λ (u : ℕ). getD ps u 0) (rowAt ks flat c)
+  joinable =
+      subst (λ (q : List ℕ). Falling (λ (u : ℕ). getD ps u 0) q) (sym row-is)
+      (subst (λ (qs : List ℕ). Falling (λ (u : ℕ). getD qs u 0) (row m c)) (sym (l .held .prio)) (l .held .order .falling c))
+
+  same-queue : queued (λ (u : ℕ). getD ps u 0) t (rowAt ks flat c) ≡ joined
+  same-queue = ap (λ (qs : List ℕ). queued (λ (u : ℕ). getD qs u 0) t (rowAt ks flat c)) (l .held .prio) ∙ ap (queued (prioOf m) t) row-is
+
+  -- what the tables hold once the task has entered
+  after : (ks′ flat′ : List ℕ) → ks′ ≡ rowCounts (rowsWith ks flat c (queued (λ (u : ℕ). getD ps u 0) t (rowAt ks flat c)))
+      → flat′ ≡ flatOf (rowsWith ks flat c (queued (λ (u : ℕ). getD ps u 0) t (rowAt ks flat c))) → Held entered ps ks′ flat′ (recordOf (levels entered))
+  after ks′ flat′ ek ef =
+      held-row m ps ks flat r c joined (l .held) (l .cpu) (fine-queued m t c (l .held .order) (l .task) (l .high) (l .room)) ks′ flat′
+      (ek ∙ ap (λ (q : List ℕ). rowCounts (rowsWith ks flat c q)) same-queue)
+      (ef ∙ ap (λ (q : List ℕ). flatOf (rowsWith ks flat c q)) same-queue)
+
+  module _ {ks′ flat′ : List ℕ} {r′ : Record} (h : Held entered ps ks′ flat′ r′) where
+    here : c < length ks′
+    here = omega (arith, cpus-counted entered ps ks′ flat′ r′ h, l .cpu)
+
+    new-row : rowAt ks′ flat′ c ≡ joined
+    new-row = read-row entered ps ks′ flat′ r′ h c ∙ row-same m c joined (omega (arith, l .held .order .rows, l .cpu))
+
+    some : 0 < length (rowAt ks′ flat′ c)
+    some =
+        let size : length joined ≡ suc (length (row m c)) = length-insert (λ (u : ℕ). ltb (prioOf m u) (prioOf m t)) t (row m c) in
+        omega (arith, ap length new-row)
+
+    first-ok : (getD flat′ (c * taskPlaces) 0 < taskPlaces) × (getD ps (getD flat′ (c * taskPlaces) 0) 0 ≤ highestPriority)
+    first-ok = above entered ps ks′ flat′ r′ h c _ (first-in ks′ flat′ (holds entered ps ks′ flat′ r′ h) c here some)
+
+    module _ (v : ℕ) (e : v ≡ levelOf (getD ps (getD flat′ (c * taskPlaces) 0) 0)) where
+      -- the level that was worked out is the CPU's
+      level-is : v ≡ rowLevel (prioOf m) (flag m c) joined
+      level-is =
+          e ∙ level-first ks′ flat′ (holds entered ps ks′ flat′ r′ h) c here (λ (u : ℕ). getD ps u 0) (flag m c) some
+          ∙ ap (λ (qs : List ℕ). rowLevel (λ (u : ℕ). getD qs u 0) (flag m c) (rowAt ks′ flat′ c)) (l .held .prio)
+          ∙ ap (rowLevel (prioOf m) (flag m c)) new-row
+
+      level-ok : known v ≡ true
+      level-ok =
+          subst (λ (x : ℕ). known x ≡ true) (sym (level-is ∙ ap (rowLevel (prioOf m) (flag m c)) (sym (row-same m c joined (omega (arith, l .held .order .rows, l .cpu))))))
+          (level-known _ (row-level-known (prioOf m) (flag m c) (row entered c) (l .held .order .flags c (l .cpu)) (h .order .high c)))
+
+      levels-after : set (r .levels) c v ≡ levels (enqueue t c m)
+      levels-after = levels-set m ps ks flat r c joined (l .held) (l .cpu) v level-is
+
+enqueue-requires : tie.Need-enqueue-requires
+enqueue-requires c κs =
+    let a = c .before .before .before .before .before .before in
+    let m = a .pre .0 .0 in
+    let l = a .pre .0 .1 in
+    let row-is = read-row m _ _ _ _ (l .held) (a .args .cpu) in (
+      holds m _ _ _ _ (l .held),
+      (
+        omega (arith, cpus-counted m _ _ _ _ (l .held), l .cpu),
+        (
+          l .task,
+          (
+            ap length (l .held .prio) ∙ l .held .order .prios,
+            record {
+              room = subst (λ (q : List ℕ). length q < taskPlaces) (sym row-is) (l .room);
+              tasks = λ u i. above m _ _ _ _ (l .held) (a .args .cpu) u i .0;
+              falling = joinable m l;
+            },
+          ),
+        ),
+      ),
+    )
+
+cast-cpus : tie.Need-cast-cpus
+cast-cpus c = let l = c .before .before .before .before .before .before .before .before .before .before .before .pre .0 .1 in omega (arith, l .cpu, l .held .order .cpus)
+
+slice-write-cpus : tie.Need-slice-write-cpus
+slice-write-cpus c = let l = c .before .before .before .before .before .before .before .before .before .before .before .pre .0 .1 in omega (arith, l .task, c .before .before .before .before .before .before .before .before .before .before .before .pre .1)
+
+first-level-requires : tie.Need-first-level-requires
+first-level-requires c κs =
+    let a = c .before .before .before .before .before .before .before .before .before .before .before .before in
+    let l = a .pre .0 .1 in
+    let h = after (a .pre .0 .0) l (c .before .before .before .before .before .enqueue .last .1 .0) (c .before .before .before .before .before .enqueue .last .0) (c .before .before .before .before .before .enqueue .ensures .1) (c .before .before .before .before .before .enqueue .ensures .0) in
+    let m′ = entered (a .pre .0 .0) l in
+    let first = first-ok (a .pre .0 .0) l h in
+    let f = rows-fit _ _ (holds m′ _ _ _ _ h) (a .args .cpu) (here (a .pre .0 .0) l h) in
+    (omega arith, (ap length (l .held .prio) ∙ l .held .order .prios, (first .0, first .1)))
+
+relevel-requires : tie.Need-relevel-requires
+relevel-requires c κs =
+    let a = c .before .before .before .before .before .before .before .before .before .before .before .before .before in
+    let l = a .pre .0 .1 in
+    let h = after (a .pre .0 .0) l (c .before .before .before .before .before .before .enqueue .last .1 .0) (c .before .before .before .before .before .before .enqueue .last .0) (c .before .before .before .before .before .before .enqueue .ensures .1) (c .before .before .before .before .before .before .enqueue .ensures .0) in (
+      whole (a .pre .0 .0) _ _ _ _ (l .held),
+      (omega (arith, l .held .order .cpus, l .cpu), level-ok (a .pre .0 .0) l h (c .first-level .result .number) (c .first-level .ensures)),
+    )
+
+same-length : tie.Need-same-length
+same-length c = search needs
+
+same-length-2 : tie.Need-same-length-2
+same-length-2 c = search needs
+
+same-length-3 : tie.Need-same-length-3
+same-length-3 c = search needs
+
+returns : tie.Need-returns
+returns c = (
+  λ m l.
+      let h = after m l (c .before .before .before .before .before .before .before .enqueue .last .1 .0) (c .before .before .before .before .before .before .before .enqueue .last .0) (c .before .before .before .before .before .before .before .enqueue .ensures .1) (c .before .before .before .before .before .before .before .enqueue .ensures .0) in
+      record {
+        order = record { cpus = h .order .cpus; rows = h .order .rows; prios = h .order .prios; fits = h .order .fits; tasks = h .order .tasks; high = h .order .high; flags = h .order .flags; falling = h .order .falling };
+        prio = h .prio;
+        counts = h .counts;
+        rows = h .rows;
+        levels = c .relevel .ensures ∙ ap recordOf (levels-after m l h (c .before .first-level .result .number) (c .before .first-level .ensures));
+      },
+  refl,
+)
+
+pub enter-spec : {M : Type 1} → statement M
+enter-spec =
+    tie.close
+    (tie.spec
+    enqueue-requires
+    cast-cpus
+    slice-write-cpus
+    first-level-requires
+    relevel-requires
+    same-length
+    same-length-2
+    same-length-3
+    returns)

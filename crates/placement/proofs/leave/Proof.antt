@@ -1,0 +1,113 @@
+-- `placement::leave` meets its contract. Assumes nothing.
+use borrow.Author.Needs.{needs}
+use mathlib.Core.Path.{_≡_, refl, sym, ap, _∙_, subst}
+use mathlib.Core.Bool.{true}
+use mathlib.Core.List.{List, []}
+use Prim.Native.Nat.{ℕ, _≤_, _<_}
+use native.Mathlib.Omega.{arith}
+use lib.ListN.{length, getD, set}
+use Rattle.cpupri.specs.Level.{known}
+use Rattle.cpupri.specs.Record.{recordOf}
+use Rattle.cpupri.specs.declared.record.Record.{Record}
+use Rattle.cpupri.proofs.Whole.{level-known}
+use Rattle.rules.specs.Lists.{In, delete}
+use Rattle.rules.specs.Machine.{Machine, row, prioOf, flag, levels, rowLevel, dequeue, taskPlaces, highestPriority}
+use Rattle.rules.specs.Tables.{flatOf, rowCounts}
+use Rattle.rules.proofs.Rows.{row-same}
+use Rattle.runqueue.specs.Table.{rowAt, rowsWith}
+use Rattle.placement.specs.Held.{InOrder, Held, Leaving}
+use Rattle.placement.proofs.Levels.{row-level-known}
+use Rattle.placement.proofs.Order.{holds, read-row, whole, cpus-counted, fine-delete, held-row, levels-set, above}
+use Rattle.placement.proofs.leave.Statement.{statement}
+use Rattle.placement.proofs.leave.Tie as tie
+
+module _ {ps fs ks flat : List ℕ} {r : Record} {t c : ℕ} (m : Machine) (l : Leaving m ps fs ks flat r t c) where
+  -- what the tables hold once the task has left
+  after : (ks′ flat′ : List ℕ) → ks′ ≡ rowCounts (rowsWith ks flat c (delete t (rowAt ks flat c))) → flat′ ≡ flatOf (rowsWith ks flat c (delete t (rowAt ks flat c)))
+      → Held (dequeue t c m) ps ks′ flat′ (recordOf (levels (dequeue t c m)))
+  after ks′ flat′ ek ef =
+      held-row m ps ks flat r c (delete t (row m c)) (l .held) (l .cpu) (fine-delete m t c (l .held .order) (l .stands)) ks′ flat′
+      (ek ∙ ap (λ (q : List ℕ). rowCounts (rowsWith ks flat c (delete t q))) (read-row m ps ks flat r (l .held) c))
+      (ef ∙ ap (λ (q : List ℕ). flatOf (rowsWith ks flat c (delete t q))) (read-row m ps ks flat r (l .held) c))
+
+  module _ {ks′ flat′ : List ℕ} {r′ : Record} (h : Held (dequeue t c m) ps ks′ flat′ r′) (v : ℕ)
+      (e : v ≡ rowLevel (λ (u : ℕ). getD ps u 0) (getD fs c 0) (rowAt ks′ flat′ c)) where
+    -- the level that was worked out is the CPU's
+    level-is : v ≡ rowLevel (prioOf m) (flag m c) (row (dequeue t c m) c)
+    level-is =
+        e ∙ ap (λ (qs : List ℕ). rowLevel (λ (u : ℕ). getD qs u 0) (getD fs c 0) (rowAt ks′ flat′ c)) (l .held .prio)
+        ∙ ap (λ (gs : List ℕ). rowLevel (prioOf m) (getD gs c 0) (rowAt ks′ flat′ c)) (l .flags)
+        ∙ ap (rowLevel (prioOf m) (flag m c)) (read-row (dequeue t c m) ps ks′ flat′ r′ h c)
+
+    level-ok : known v ≡ true
+    level-ok =
+        subst (λ (x : ℕ). known x ≡ true) (sym level-is)
+        (level-known _ (row-level-known (prioOf m) (flag m c) (row (dequeue t c m) c) (l .held .order .flags c (l .cpu)) (h .order .high c)))
+
+    levels-after : set (r .levels) c v ≡ levels (dequeue t c m)
+    levels-after =
+        levels-set m ps ks flat r c (delete t (row m c)) (l .held) (l .cpu) v
+        (level-is ∙ ap (rowLevel (prioOf m) (flag m c)) (row-same m c (delete t (row m c)) (omega (arith, l .held .order .rows, l .cpu))))
+
+dequeue-requires : tie.Need-dequeue-requires
+dequeue-requires c κs =
+    let a = c .before .before .before .before .before .before in
+    let m = a .pre .0 in
+    let l = a .pre .1 in (
+      holds m _ _ _ _ (l .held),
+      (omega (arith, cpus-counted m _ _ _ _ (l .held), l .cpu), subst (In (a .args .task)) (sym (read-row m _ _ _ _ (l .held) (a .args .cpu))) (l .stands)),
+    )
+
+cpu-level-requires : tie.Need-cpu-level-requires
+cpu-level-requires c κs =
+    let a = c .before .before .before .before .before .before .before .before .before .before .before .before .before in
+    let l = a .pre .1 in
+    let h = after (a .pre .0) l (c .before .before .before .before .before .before .dequeue .last .1 .0) (c .before .before .before .before .before .before .dequeue .last .0) (c .before .before .before .before .before .before .dequeue .ensures .1) (c .before .before .before .before .before .before .dequeue .ensures .0) in
+    let m′ = dequeue (a .args .task) (a .args .cpu) (a .pre .0) in (
+      holds m′ _ _ _ _ h,
+      (
+        omega (arith, cpus-counted m′ _ _ _ _ h, l .cpu),
+        (
+          omega (arith, ap length (l .flags), l .flag-count, l .cpu),
+          (ap length (l .held .prio) ∙ l .held .order .prios, above m′ _ _ _ _ h (a .args .cpu)),
+        ),
+      ),
+    )
+
+relevel-requires : tie.Need-relevel-requires
+relevel-requires c κs =
+    let a = c .before .before .before .before .before .before .before .before .before .before .before .before .before .before in
+    let l = a .pre .1 in
+    let h = after (a .pre .0) l (c .before .before .before .before .before .before .before .dequeue .last .1 .0) (c .before .before .before .before .before .before .before .dequeue .last .0) (c .before .before .before .before .before .before .before .dequeue .ensures .1) (c .before .before .before .before .before .before .before .dequeue .ensures .0) in (
+      whole (a .pre .0) _ _ _ _ (l .held),
+      (omega (arith, l .held .order .cpus, l .cpu), level-ok (a .pre .0) l h (c .cpu-level .result .number) (c .cpu-level .ensures)),
+    )
+
+same-length : tie.Need-same-length
+same-length c = search needs
+
+same-length-2 : tie.Need-same-length-2
+same-length-2 c = search needs
+
+returns : tie.Need-returns
+returns c =
+    λ m l.
+    let h = after m l (c .before .before .before .before .before .before .before .before .dequeue .last .1 .0) (c .before .before .before .before .before .before .before .before .dequeue .last .0) (c .before .before .before .before .before .before .before .before .dequeue .ensures .1) (c .before .before .before .before .before .before .before .before .dequeue .ensures .0) in
+    record {
+      order = h .order;
+      prio = h .prio;
+      counts = h .counts;
+      rows = h .rows;
+      levels = c .relevel .ensures ∙ ap recordOf (levels-after m l h (c .before .cpu-level .result .number) (c .before .cpu-level .ensures));
+    }
+
+pub leave-spec : {M : Type 1} → statement M
+leave-spec =
+    tie.close
+    (tie.spec
+    dequeue-requires
+    cpu-level-requires
+    relevel-requires
+    same-length
+    same-length-2
+    returns)

@@ -1,0 +1,94 @@
+// A task leaves or enters a run queue, and its CPU's level follows at once: the tables of rows and
+// the CPU-priority record change together.
+ghost use mathlib.Core.Path.{_≡_};
+ghost use mathlib.Core.Bool.{true};
+ghost use Prim.Native.Nat.{ℕ, _*_, _≤_, _<_};
+ghost use lib.ListN.{length, getD, set};
+ghost use Rattle.cpupri.specs.Level.{cpuPlaces, known, levelOf};
+ghost use Rattle.cpupri.specs.Record.{recordOf, Whole};
+ghost use Rattle.rules.specs.Lists.{In};
+ghost use Rattle.rules.specs.Machine.{Machine, taskPlaces, highestPriority, rowLevel, enqueue, dequeue};
+ghost use Rattle.runqueue.specs.Table.{HoldsRows, rowAt};
+ghost use Rattle.placement.specs.Held.{Held, Leaving, Entering};
+use cpupri::level::Level;
+use cpupri::record::Record;
+
+// The task leaves the row of its CPU.
+pub fn leave(
+    rows: &mut [u16],
+    counts: &mut [u16],
+    prio: &[u8],
+    flags: &[u8],
+    cpu: usize,
+    task: u16,
+    record: Record,
+) -> Record
+    requires { ⌜ ((m : Machine) × Leaving m (now prio) (now flags) (now counts) (now rows) «record» task cpu) ⌝ }
+    ensures { λ r. ⌜ ((m : Machine) → Leaving m (now (prio .entry)) (now (flags .entry)) (now (counts .entry)) (now (rows .entry)) «record» task cpu → Held (dequeue task cpu m) (now (prio .entry)) (now (counts .exit)) (now (rows .exit)) r) ⌝ }
+{
+    runqueue::table::dequeue(rows, counts, cpu, task);
+    let level = cpu_level(rows, counts, prio, flags, cpu);
+    relevel(record, cpu, level)
+}
+
+// The task enters the row of a CPU, which is then its CPU.
+pub fn enter(
+    rows: &mut [u16],
+    counts: &mut [u16],
+    prio: &[u8],
+    cpus: &mut [u8],
+    cpu: usize,
+    task: u16,
+    record: Record,
+) -> Record
+    requires { ⌜ ((m : Machine) × Entering m (now prio) (now counts) (now rows) «record» task cpu) ⌝ }
+    requires { ⌜ length (now cpus) ≡ taskPlaces ⌝ }
+    ensures { λ r. ⌜ ((m : Machine) → Entering m (now (prio .entry)) (now (counts .entry)) (now (rows .entry)) «record» task cpu → Held (enqueue task cpu m) (now (prio .entry)) (now (counts .exit)) (now (rows .exit)) r) ⌝ }
+    ensures { λ r. ⌜ now (cpus .exit) ≡ set (now (cpus .entry)) task cpu ⌝ }
+{
+    runqueue::table::enqueue(rows, counts, prio, cpu, task);
+    cpus[task as usize] = cpu as u8;
+    let level = first_level(rows, prio, cpu);
+    relevel(record, cpu, level)
+}
+
+// The level of a CPU: that of the task it runs or, with an empty row, its ordinary-work flag.
+pub fn cpu_level(rows: &[u16], counts: &[u16], prio: &[u8], flags: &[u8], cpu: usize) -> Level
+    requires { ⌜ HoldsRows (now counts) (now rows) ⌝ }
+    requires { ⌜ cpu < length (now counts) ⌝ }
+    requires { ⌜ cpu < length (now flags) ⌝ }
+    requires { ⌜ length (now prio) ≡ taskPlaces ⌝ }
+    requires { ⌜ ((u : ℕ) → In u (rowAt (now counts) (now rows) cpu) → (u < taskPlaces) × (getD (now prio) u 0 ≤ highestPriority)) ⌝ }
+    ensures { λ r. ⌜ r .number ≡ rowLevel (λ u. getD (now (prio .entry)) u 0) (getD (now (flags .entry)) cpu 0) (rowAt (now (counts .entry)) (now (rows .entry)) cpu) ⌝ }
+{
+    if counts[cpu] == 0 {
+        return Level { number: flags[cpu] };
+    }
+    first_level(rows, prio, cpu)
+}
+
+// The level of a CPU that runs a task.
+fn first_level(rows: &[u16], prio: &[u8], cpu: usize) -> Level
+    requires { ⌜ cpu * taskPlaces < length (now rows) ⌝ }
+    requires { ⌜ length (now prio) ≡ taskPlaces ⌝ }
+    requires { ⌜ getD (now rows) (cpu * taskPlaces) 0 < taskPlaces ⌝ }
+    requires { ⌜ getD (now prio) (getD (now rows) (cpu * taskPlaces) 0) 0 ≤ highestPriority ⌝ }
+    ensures { λ r. ⌜ r .number ≡ levelOf (getD (now (prio .entry)) (getD (now (rows .entry)) (cpu * taskPlaces) 0) 0) ⌝ }
+{
+    let first = rows[cpu * runqueue::row::PLACES] as usize;
+    Level::of_priority(prio[first])
+}
+
+// The record with the CPU at this level. Mostly it is there already.
+fn relevel(record: Record, cpu: usize, level: Level) -> Record
+    requires { ⌜ Whole «record» ⌝ }
+    requires { ⌜ cpu < cpuPlaces ⌝ }
+    requires { ⌜ known (level .number) ≡ true ⌝ }
+    ensures { λ r. ⌜ r ≡ recordOf (set («record» .levels) cpu (level .number)) ⌝ }
+{
+    let now = record.levels[cpu];
+    if now == level.number {
+        return record;
+    }
+    record.set_level(cpu, level)
+}

@@ -1,0 +1,164 @@
+-- A row place by place: where a task stands, and what stands where after one leaves or enters.
+-- Assumes nothing.
+use mathlib.Core.Path.{_≡_, refl, sym, ap, _∙_, subst}
+use mathlib.Core.Bool.{Bool, true, false, cond, false≢true}
+use mathlib.Core.Logic.{_≢_, _⊎_, inl, inr}
+use mathlib.Core.List.{List, [], _∷_, _++_}
+use Prim.Native.Nat.{ℕ, zero, suc, _+_, _-_, _≤_, _<_, zero-le, suc-le-suc}
+use native.Mathlib.Nat.{not-suc-le-zero, le-of-suc-le-suc, zero-lt-suc}
+use native.Mathlib.Omega.{arith}
+use lib.Dec.{eqb, ltb}
+use lib.ListN.{length, getD, replicate, length-replicate, getD-replicate, List·getD-append}
+use lib.Seq.{getD-append-add}
+use borrow.Author.Tests.{eqb-true, eqb-false, eq-eqb}
+use Rattle.rules.specs.Lists.{In, Falling, place, insertBefore, delete}
+use Rattle.rules.specs.Machine.{taskPlaces}
+use Rattle.rules.specs.Tables.{nothing, padded}
+use Rattle.rules.proofs.Lists.{not-in-nil, in-cons, in-getD}
+use Rattle.rules.proofs.Order.{place-here, place-there}
+use Rattle.runqueue.specs.Row.{ahead}
+
+-- ---- where a task stands
+
+-- x is the first of the list, or stands behind it
+head-or-behind : (x y : ℕ) (ys : List ℕ) → In x (y ∷ ys) → (x ≡ y) ⊎ ((x ≢ y) × In x ys)
+head-or-behind x y ys i = go (eqb x y) refl
+  where
+    behind : x ≢ y → (x ≡ y) ⊎ In x ys → In x ys
+    behind d (inl e) = absurd (d e)
+    behind d (inr j) = j
+
+    go : (b : Bool) → eqb x y ≡ b → (x ≡ y) ⊎ ((x ≢ y) × In x ys)
+    go true e = inl (eqb-true x y e)
+    go false e = let d : x ≢ y = eqb-false x y e in inr (d, behind d (in-cons x y ys i))
+
+pub place-is : (x : ℕ) (xs : List ℕ) → In x xs → getD xs (place x xs) 0 ≡ x
+place-is x [] i = absurd (not-in-nil x i)
+place-is x (y ∷ ys) i = go (head-or-behind x y ys i) (place-is x ys)
+  where
+    go : (x ≡ y) ⊎ ((x ≢ y) × In x ys) → (In x ys → getD ys (place x ys) 0 ≡ x) → getD (y ∷ ys) (place x (y ∷ ys)) 0 ≡ x
+    go (inl e) rest = ap (λ (k : ℕ). getD (y ∷ ys) k 0) (place-here x y ys e) ∙ sym e
+    go (inr (d)) rest = ap (λ (k : ℕ). getD (y ∷ ys) k 0) (place-there x y ys (d .0)) ∙ rest (d .1)
+
+-- nothing before it is it
+pub place-before : (x : ℕ) (xs : List ℕ) (k : ℕ) → k < place x xs → getD xs k 0 ≢ x
+unfolding place
+place-before x [] k h e = not-suc-le-zero h
+place-before x (y ∷ ys) k h e = go (eqb x y) refl k h e (place-before x ys)
+  where
+    go : (b : Bool) → eqb x y ≡ b → (k : ℕ) → k < cond b 0 (suc (place x ys)) → getD (y ∷ ys) k 0 ≡ x
+        → ((k : ℕ) → k < place x ys → getD ys k 0 ≢ x) → ⊥
+    go true t k l e rest = not-suc-le-zero l
+    go false t zero l e rest = eqb-false x y t (sym e)
+    go false t (suc k) l e rest = rest k (le-of-suc-le-suc l) e
+
+-- ---- after it leaves
+
+pub delete-before : (x : ℕ) (xs : List ℕ) (k : ℕ) → k < place x xs → getD (delete x xs) k 0 ≡ getD xs k 0
+unfolding place delete
+delete-before x [] k h = refl
+delete-before x (y ∷ ys) k h = go (eqb x y) k h (delete-before x ys)
+  where
+    go : (b : Bool) (k : ℕ) → k < cond b 0 (suc (place x ys)) → ((k : ℕ) → k < place x ys → getD (delete x ys) k 0 ≡ getD ys k 0)
+        → getD (cond b ys (y ∷ delete x ys)) k 0 ≡ getD (y ∷ ys) k 0
+    go true k l rest = absurd (not-suc-le-zero l)
+    go false zero l rest = refl
+    go false (suc k) l rest = rest k (le-of-suc-le-suc l)
+
+pub delete-after : (x : ℕ) (xs : List ℕ) (k : ℕ) → In x xs → place x xs ≤ k → getD (delete x xs) k 0 ≡ getD xs (suc k) 0
+unfolding place delete
+delete-after x [] k i h = refl
+delete-after x (y ∷ ys) k i h = go (eqb x y) refl k h (delete-after x ys)
+  where
+    behind : eqb x y ≡ false → In x ys
+    behind e = skip (in-cons x y ys i)
+      where
+        skip : (x ≡ y) ⊎ In x ys → In x ys
+        skip (inl q) = absurd (eqb-false x y e q)
+        skip (inr j) = j
+
+    go : (b : Bool) → eqb x y ≡ b → (k : ℕ) → cond b 0 (suc (place x ys)) ≤ k
+        → ((k : ℕ) → In x ys → place x ys ≤ k → getD (delete x ys) k 0 ≡ getD ys (suc k) 0)
+        → getD (cond b ys (y ∷ delete x ys)) k 0 ≡ getD ys k 0
+    go true e k l rest = refl
+    go false e zero l rest = absurd (not-suc-le-zero l)
+    go false e (suc k) l rest = rest k (behind e) (le-of-suc-le-suc l)
+
+-- ---- after it enters
+
+module _ (p : ℕ → Bool) (x : ℕ) where
+  pub insert-before : (xs : List ℕ) (k : ℕ) → k < ahead p xs → getD (insertBefore p x xs) k 0 ≡ getD xs k 0
+  unfolding ahead insertBefore
+  insert-before [] k h = absurd (not-suc-le-zero h)
+  insert-before (y ∷ ys) k h = go (p y) k h (insert-before ys)
+    where
+      go : (b : Bool) (k : ℕ) → k < cond b 0 (suc (ahead p ys)) → ((k : ℕ) → k < ahead p ys → getD (insertBefore p x ys) k 0 ≡ getD ys k 0)
+          → getD (cond b (x ∷ y ∷ ys) (y ∷ insertBefore p x ys)) k 0 ≡ getD (y ∷ ys) k 0
+      go true k l rest = absurd (not-suc-le-zero l)
+      go false zero l rest = refl
+      go false (suc k) l rest = rest k (le-of-suc-le-suc l)
+
+  pub insert-at : (xs : List ℕ) → getD (insertBefore p x xs) (ahead p xs) 0 ≡ x
+  unfolding ahead insertBefore
+  insert-at [] = refl
+  insert-at (y ∷ ys) = go (p y) (insert-at ys)
+    where
+      go : (b : Bool) → getD (insertBefore p x ys) (ahead p ys) 0 ≡ x
+          → getD (cond b (x ∷ y ∷ ys) (y ∷ insertBefore p x ys)) (cond b 0 (suc (ahead p ys))) 0 ≡ x
+      go true rest = refl
+      go false rest = rest
+
+  pub insert-after : (xs : List ℕ) (k : ℕ) → ahead p xs ≤ k → getD (insertBefore p x xs) (suc k) 0 ≡ getD xs k 0
+  unfolding ahead insertBefore
+  insert-after [] k h = refl
+  insert-after (y ∷ ys) k h = go (p y) k h (insert-after ys)
+    where
+      go : (b : Bool) (k : ℕ) → cond b 0 (suc (ahead p ys)) ≤ k → ((k : ℕ) → ahead p ys ≤ k → getD (insertBefore p x ys) (suc k) 0 ≡ getD ys k 0)
+          → getD (cond b (x ∷ y ∷ ys) (y ∷ insertBefore p x ys)) (suc k) 0 ≡ getD (y ∷ ys) k 0
+      go true k l rest = refl
+      go false zero l rest = absurd (not-suc-le-zero l)
+      go false (suc k) l rest = rest k (le-of-suc-le-suc l)
+
+-- ---- how many stand ahead
+
+pub ahead-le : (p : ℕ → Bool) (xs : List ℕ) → ahead p xs ≤ length xs
+unfolding ahead
+ahead-le p [] = zero-le
+ahead-le p (y ∷ ys) = go (p y) (ahead-le p ys)
+  where
+    go : (b : Bool) → ahead p ys ≤ length ys → cond b 0 (suc (ahead p ys)) ≤ suc (length ys)
+    go true l = zero-le
+    go false l = suc-le-suc l
+
+-- i, where none before i passes the test, and i is the end or passes it
+pub ahead-is : (p : ℕ → Bool) (xs : List ℕ) (i : ℕ) → i ≤ length xs → ((k : ℕ) → k < i → p (getD xs k 0) ≡ false)
+    → (i < length xs → p (getD xs i 0) ≡ true) → ahead p xs ≡ i
+unfolding ahead
+ahead-is p [] zero h b t = refl
+ahead-is p [] (suc i) h b t = absurd (not-suc-le-zero h)
+ahead-is p (y ∷ ys) zero h b t = ap (λ (x : Bool). cond x 0 (suc (ahead p ys))) (t (zero-lt-suc (length ys)))
+ahead-is p (y ∷ ys) (suc i) h b t =
+    ap (λ (x : Bool). cond x 0 (suc (ahead p ys))) (b zero (zero-lt-suc i))
+    ∙ ap suc (ahead-is p ys i (le-of-suc-le-suc h) (λ k l. b (suc k) (suc-le-suc l)) (λ l. t (suc-le-suc l)))
+
+-- along a row the measure never rises, place by place
+pub falling-at : (p : ℕ → ℕ) (xs : List ℕ) → Falling p xs → (i j : ℕ) → i ≤ j → j < length xs → p (getD xs j 0) ≤ p (getD xs i 0)
+falling-at p [] f i j l h = absurd (not-suc-le-zero h)
+falling-at p (x ∷ xs) f zero zero l h = omega arith
+falling-at p (x ∷ xs) f zero (suc j) l h = f .0 (getD xs j 0) (in-getD xs j (le-of-suc-le-suc h))
+falling-at p (x ∷ xs) f (suc i) zero l h = absurd (not-suc-le-zero l)
+falling-at p (x ∷ xs) f (suc i) (suc j) l h = falling-at p xs (f .1) i j (le-of-suc-le-suc l) (le-of-suc-le-suc h)
+
+-- ---- the 512 places
+
+pub padded-in : (r : List ℕ) (k : ℕ) → k < length r → getD (padded r) k 0 ≡ getD r k 0
+unfolding padded
+padded-in r k h = List·getD-append r (replicate (taskPlaces - length r) nothing) 0 k h
+
+pub padded-out : (r : List ℕ) (k : ℕ) → length r ≤ k → k < taskPlaces → getD (padded r) k 0 ≡ nothing
+unfolding padded
+padded-out r k h l =
+    let place-of : k ≡ length r + (k - length r) = omega arith in
+    ap (λ (i : ℕ). getD (r ++ replicate (taskPlaces - length r) nothing) i 0) place-of
+    ∙ getD-append-add r (replicate (taskPlaces - length r) nothing) (k - length r) 0
+    ∙ getD-replicate (taskPlaces - length r) (k - length r) nothing 0 (omega arith)

@@ -1,0 +1,98 @@
+// One row of 512 places. Leaving and entering move only those that stand behind.
+ghost use mathlib.Core.Path.{_≡_};
+ghost use Prim.Native.Nat.{ℕ, suc, _≤_, _<_};
+ghost use lib.Dec.{ltb};
+ghost use lib.ListN.{length, getD, take};
+ghost use Rattle.rules.specs.Lists.{In, Falling, place, delete};
+ghost use Rattle.rules.specs.Machine.{taskPlaces, queued};
+ghost use Rattle.rules.specs.Tables.{nothing, padded};
+ghost use Rattle.runqueue.specs.Row.{HoldsRow, Closed, Opened, ahead};
+
+pub const PLACES: usize = 512;
+
+pub const NOTHING: u16 = 65535;
+
+// The task leaves, those behind it close up, and the freed place holds nothing.
+pub fn remove(row: &mut [u16], count: usize, task: u16)
+    requires { ⌜ HoldsRow count (now row) ⌝ }
+    requires { ⌜ In task (take count (now row)) ⌝ }
+    ensures { λ u. ⌜ now (row .exit) ≡ padded (delete task (take count (now (row .entry)))) ⌝ }
+{
+    let at = position(row, count, task);
+    shift_down(row, at, count);
+}
+
+// The task enters behind every task of the same or a higher priority and before all lower ones.
+pub fn insert(row: &mut [u16], prio: &[u8], count: usize, task: u16, priority: u8)
+    requires { ⌜ HoldsRow count (now row) ⌝ }
+    requires { ⌜ count < taskPlaces ⌝ }
+    requires { ⌜ length (now prio) ≡ taskPlaces ⌝ }
+    requires { ⌜ ((i : ℕ) → i < count → getD (now row) i 0 < taskPlaces) ⌝ }
+    requires { ⌜ Falling (λ u. getD (now prio) u 0) (take count (now row)) ⌝ }
+    requires { ⌜ getD (now prio) task 0 ≡ priority ⌝ }
+    ensures { λ u. ⌜ now (row .exit) ≡ padded (queued (λ u. getD (now (prio .entry)) u 0) task (take count (now (row .entry)))) ⌝ }
+{
+    let at = rank(row, prio, count, priority);
+    shift_up(row, at, count);
+    row[at] = task;
+}
+
+// Where the task stands in the row.
+fn position(row: &[u16], count: usize, task: u16) -> usize
+    requires { ⌜ count ≤ length (now row) ⌝ }
+    requires { ⌜ In task (take count (now row)) ⌝ }
+    ensures { λ r. ⌜ r ≡ place task (take count (now (row .entry))) ⌝ }
+{
+    let mut at = 0;
+    while row[at] != task {
+        at += 1;
+    }
+    at
+}
+
+// How many tasks of the row are not lower than this priority. Priorities fall along a row, so the
+// walk starts at its end and passes only the lower ones.
+fn rank(row: &[u16], prio: &[u8], count: usize, priority: u8) -> usize
+    requires { ⌜ count ≤ length (now row) ⌝ }
+    requires { ⌜ length (now prio) ≡ taskPlaces ⌝ }
+    requires { ⌜ ((i : ℕ) → i < count → getD (now row) i 0 < taskPlaces) ⌝ }
+    requires { ⌜ Falling (λ u. getD (now prio) u 0) (take count (now row)) ⌝ }
+    ensures { λ r. ⌜ r ≡ ahead (λ u. ltb (getD (now (prio .entry)) u 0) priority) (take count (now (row .entry))) ⌝ }
+{
+    let mut at = count;
+    while at > 0 {
+        let last = row[at - 1] as usize;
+        if prio[last] >= priority {
+            return at;
+        }
+        at -= 1;
+    }
+    0
+}
+
+// The places from at + 1 to count - 1 move down by one, and the last of them holds nothing.
+fn shift_down(row: &mut [u16], at: usize, count: usize)
+    requires { ⌜ at < count ⌝ }
+    requires { ⌜ count ≤ length (now row) ⌝ }
+    ensures { λ u. ⌜ Closed at count (now (row .entry)) (now (row .exit)) ⌝ }
+{
+    let mut i = at + 1;
+    while i < count {
+        row[i - 1] = row[i];
+        i += 1;
+    }
+    row[count - 1] = NOTHING;
+}
+
+// The places from `at` to count - 1 move up by one.
+fn shift_up(row: &mut [u16], at: usize, count: usize)
+    requires { ⌜ at ≤ count ⌝ }
+    requires { ⌜ count < length (now row) ⌝ }
+    ensures { λ u. ⌜ Opened at count (now (row .entry)) (now (row .exit)) ⌝ }
+{
+    let mut i = count;
+    while at < i {
+        row[i] = row[i - 1];
+        i -= 1;
+    }
+}

@@ -1,0 +1,47 @@
+// All rows: a task leaves or enters the row of one CPU.
+ghost use mathlib.Core.Path.{_≡_};
+ghost use Prim.Native.Nat.{_<_};
+ghost use lib.ListN.{length, getD};
+ghost use Rattle.rules.specs.Lists.{In, delete};
+ghost use Rattle.rules.specs.Machine.{taskPlaces, queued};
+ghost use Rattle.rules.specs.Tables.{flatOf, rowCounts};
+ghost use Rattle.runqueue.specs.Table.{HoldsRows, Joinable, rowAt, rowsWith};
+use super::row;
+
+// The task leaves the row of this CPU.
+pub fn dequeue(rows: &mut [u16], counts: &mut [u16], cpu: usize, task: u16)
+    requires { ⌜ HoldsRows (now counts) (now rows) ⌝ }
+    requires { ⌜ cpu < length (now counts) ⌝ }
+    requires { ⌜ In task (rowAt (now counts) (now rows) cpu) ⌝ }
+    ensures { λ u. ⌜ now (rows .exit) ≡ flatOf (rowsWith (now (counts .entry)) (now (rows .entry)) cpu (delete task (rowAt (now (counts .entry)) (now (rows .entry)) cpu))) ⌝ }
+    ensures { λ u. ⌜ now (counts .exit) ≡ rowCounts (rowsWith (now (counts .entry)) (now (rows .entry)) cpu (delete task (rowAt (now (counts .entry)) (now (rows .entry)) cpu))) ⌝ }
+{
+    let start = cpu * row::PLACES;
+    let count = counts[cpu] as usize;
+    row::remove(&mut rows[start..start + row::PLACES], count, task);
+    counts[cpu] = (count - 1) as u16;
+}
+
+// The task enters the row of this CPU, behind every task of the same or a higher priority and before
+// all lower ones.
+pub fn enqueue(rows: &mut [u16], counts: &mut [u16], prio: &[u8], cpu: usize, task: u16)
+    requires { ⌜ HoldsRows (now counts) (now rows) ⌝ }
+    requires { ⌜ cpu < length (now counts) ⌝ }
+    requires { ⌜ task < taskPlaces ⌝ }
+    requires { ⌜ length (now prio) ≡ taskPlaces ⌝ }
+    requires { ⌜ Joinable (now prio) (rowAt (now counts) (now rows) cpu) ⌝ }
+    ensures { λ u. ⌜ now (rows .exit) ≡ flatOf (rowsWith (now (counts .entry)) (now (rows .entry)) cpu (queued (λ u. getD (now (prio .entry)) u 0) task (rowAt (now (counts .entry)) (now (rows .entry)) cpu))) ⌝ }
+    ensures { λ u. ⌜ now (counts .exit) ≡ rowCounts (rowsWith (now (counts .entry)) (now (rows .entry)) cpu (queued (λ u. getD (now (prio .entry)) u 0) task (rowAt (now (counts .entry)) (now (rows .entry)) cpu))) ⌝ }
+{
+    let start = cpu * row::PLACES;
+    let count = counts[cpu] as usize;
+    let priority = prio[task as usize];
+    row::insert(
+        &mut rows[start..start + row::PLACES],
+        prio,
+        count,
+        task,
+        priority,
+    );
+    counts[cpu] = (count + 1) as u16;
+}
