@@ -65,6 +65,16 @@ no-task m t s h =
     past : {n : ℕ} → n ≡ taskPlaces → n ≤ t
     past e = subst (λ (x : ℕ). x ≤ t) (sym e) h
 
+-- so a runnable one is a task place
+pub runnable-place : (m : Machine) (t : ℕ) → Shape m → taskOf m t .state ≡ runnable → t < taskPlaces
+runnable-place m t s r = go (ltb t taskPlaces) refl
+  where
+    go : (b : Bool) → ltb t taskPlaces ≡ b → t < taskPlaces
+    go true e = ltb-true t taskPlaces e
+    go false e =
+        let z : taskOf m t .state ≡ 0 = ap (λ (x : Task). x .state) (no-task m t s (ltb-false t taskPlaces e)) in
+        absurd (omega arith)
+
 -- ---- well-formed but for task t, which stands in no row
 
 pub record Apart (t : ℕ) (m : Machine) : Type 0 where
@@ -75,6 +85,10 @@ pub record Apart (t : ℕ) (m : Machine) : Type 0 where
   pub rows : (u c : ℕ) → u ≢ t → occ u (row m c) ≡ standing (taskOf m u) c
   pub home : (u : ℕ) → u ≢ t → taskOf m u .state ≡ runnable → allowed m u (taskOf m u .cpu) ≡ true
   pub falling : (c : ℕ) → Falling (prioOf m) (row m c)
+
+-- who stands in a row is another task
+pub in-other : (t : ℕ) (m : Machine) → Apart t m → (c u : ℕ) → In u (row m c) → u ≢ t
+in-other t m p c u i e = let z : occ u (row m c) ≡ 0 = ap (λ (k : ℕ). occ k (row m c)) e ∙ p .absent c in omega arith
 
 -- a task that is not runnable
 pub apart-idle : (t : ℕ) (m : Machine) → WellFormed m → taskOf m t .state ≢ runnable → Apart t m
@@ -94,18 +108,9 @@ fit-of n τ (is-free e) h = absurd (h (ap (λ (x : Task). x .state) e))
 fit-of n τ (is-asleep s f) h = f
 fit-of n τ (is-runnable s f) h = f
 
--- a runnable task is a task place, and fits
-pub runnable-place : (m : Machine) (t : ℕ) → WellFormed m → taskOf m t .state ≡ runnable → t < taskPlaces
-runnable-place m t w s = go (ltb t taskPlaces) refl
-  where
-    go : (b : Bool) → ltb t taskPlaces ≡ b → t < taskPlaces
-    go true e = ltb-true t taskPlaces e
-    go false e =
-        let z : taskOf m t .state ≡ 0 = ap (λ (x : Task). x .state) (no-task m t (w .shape) (ltb-false t taskPlaces e)) in
-        absurd (omega arith)
-
+-- a runnable task fits
 pub runnable-fit : (m : Machine) (t : ℕ) → WellFormed m → taskOf m t .state ≡ runnable → Fit (m .n) (taskOf m t)
-runnable-fit m t w s = fit-of (m .n) (taskOf m t) (w .tasks t (runnable-place m t w s)) (λ z. omega arith)
+runnable-fit m t w s = fit-of (m .n) (taskOf m t) (w .tasks t (runnable-place m t (w .shape) s)) (λ z. omega arith)
 
 -- what stands in row c is runnable there
 pub in-row : (m : Machine) (t c : ℕ) → WellFormed m → In t (row m c) → (taskOf m t .state ≡ runnable) × (taskOf m t .cpu ≡ c)
@@ -159,11 +164,8 @@ module _ (t : ℕ) (m : Machine) (p : Apart t m) (a b c d e f : List ℕ) where
         absent = p .absent;
         rows = λ u c n. subst (λ (τ : Task). occ u (row m c) ≡ standing τ c) (sym (same u n)) (p .rows u c n);
         home = λ u n. subst (λ (τ : Task). τ .state ≡ runnable → allows m (τ .mask) (τ .cpu) ≡ true) (sym (same u n)) (p .home u n);
-        falling = λ c. falling-cong (prioOf m) (prioOf other) (row m c) (λ u i. ap (λ (τ : Task). τ .prio) (sym (same u (other-task c u i)))) (p .falling c);
+        falling = λ c. falling-cong (prioOf m) (prioOf other) (row m c) (λ u i. ap (λ (τ : Task). τ .prio) (sym (same u (in-other t m p c u i)))) (p .falling c);
       }
-    where
-      other-task : (c u : ℕ) → In u (row m c) → u ≢ t
-      other-task c u i x = let z : occ u (row m c) ≡ 0 = ap (λ (k : ℕ). occ k (row m c)) x ∙ p .absent c in omega arith
 
 module _ (t : ℕ) (m : Machine) (p : Apart t m) where
   pub apart-store : (k : Column) (v : ℕ) → Apart t (store k t v m)
@@ -206,18 +208,8 @@ module _ (t : ℕ) (m : Machine) (p : Apart t m) where
 
   -- ---- room
 
-  pub in-other : (c u : ℕ) → In u (row m c) → u ≢ t
-  in-other c u i e = let z : occ u (row m c) ≡ 0 = ap (λ (k : ℕ). occ k (row m c)) e ∙ p .absent c in omega arith
-
   pub in-place : (c u : ℕ) → In u (row m c) → u < taskPlaces
-  in-place c u i = go (ltb u taskPlaces) refl
-    where
-      go : (b : Bool) → ltb u taskPlaces ≡ b → u < taskPlaces
-      go true e = ltb-true u taskPlaces e
-      go false e =
-          let free : taskOf m u ≡ freeTask = no-task m u (p .shape) (ltb-false u taskPlaces e) in
-          let z : standing (taskOf m u) c ≡ 0 = standing-idle (taskOf m u) c (λ h. let q : taskOf m u .state ≡ 0 = ap (λ (x : Task). x .state) free in omega arith) in
-          absurd (omega (arith, p .rows u c (in-other c u i)))
+  in-place c u i = runnable-place m u (p .shape) (standing-means (taskOf m u) c (omega (arith, p .rows u c (in-other t m p c u i))) .0)
 
   -- No insertion finds its row full: beside task t, which stands in no row, a row has at most 511 tasks.
   pub room : t < taskPlaces → (c : ℕ) → length (row m c) < taskPlaces
