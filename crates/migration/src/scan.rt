@@ -16,7 +16,14 @@ use cpupri::record::LEVELS;
 // The place of the first waiting task that is above the priority `floor` and has an allowed CPU below
 // its level, or `count` if there is none. Priorities fall along a row, so the walk ends at the first
 // task that is not above the floor.
-pub fn scan(row: &[u16], prio: &[u8], mask: &[u64], masks: &[u64; LEVELS], count: usize, floor: u8) -> usize
+pub fn scan(
+    row: &[u16],
+    prio: &[u8],
+    mask: &[u64],
+    masks: &[u64; LEVELS],
+    count: usize,
+    floor: u8,
+) -> usize
     requires { ⌜ Searchable (now prio) (now mask) (now row) count ⌝ }
     ensures { λ r. ⌜ r ≡ suc (ahead (wanted (now (masks .entry)) (now (prio .entry)) (now (mask .entry)) floor) (tail (take count (now (row .entry))))) ⌝ }
 {

@@ -74,7 +74,7 @@ module _ (masks ps ms row : List ℕ) (count floor : ℕ) (ok : Searchable ps ms
       ap suc (ahead-is (wanted masks ps ms floor) (tail (take count row)) (at - 1) (omega (arith, size))
       (λ k b. ap (wanted masks ps ms floor) (at-queue k (omega arith)) ∙ before (suc k) (omega arith) (omega arith))
       (λ b. let in-reach : at < count = omega (arith, size) in
-        ap (wanted masks ps ms floor) (at-queue (at - 1) (omega arith)) ∙ ap (λ (k : ℕ). wanted masks ps ms floor (getD row k 0)) (let e : suc (at - 1) ≡ at = omega arith in e) ∙ here in-reach))
+      ap (wanted masks ps ms floor) (at-queue (at - 1) (omega arith)) ∙ ap (λ (k : ℕ). wanted masks ps ms floor (getD row k 0)) (let e : suc (at - 1) ≡ at = omega arith in e) ∙ here in-reach))
       ∙ (let e : suc (at - 1) ≡ at = omega arith in e)
 
   -- a task that is not above the floor: none behind it is
@@ -84,11 +84,12 @@ module _ (masks ps ms row : List ℕ) (count floor : ℕ) (ok : Searchable ps ms
     where
       whole : length (take count row) ≡ count
       whole = length-take-le count row (ok .most)
+
       go : (b : Bool) → leb at k ≡ b → wanted masks ps ms floor (getD row k 0) ≡ false
       go true e =
           let behind : at ≤ k = leb-true at k e in
           let falls : getD ps (getD (take count row) k 0) 0 ≤ getD ps (getD (take count row) at 0) 0 =
-              falling-at (λ (u : ℕ). getD ps u 0) (take count row) (ok .falling) at k behind (omega (arith, whole)) in
+          falling-at (λ (u : ℕ). getD ps u 0) (take count row) (ok .falling) at k behind (omega (arith, whole)) in
           let same-k : getD ps (getD (take count row) k 0) 0 ≡ getD ps (getD row k 0) 0 = ap (λ (u : ℕ). getD ps u 0) (getD-take count row k 0 m) in
           let same-at : getD ps (getD (take count row) at 0) 0 ≡ getD ps (getD row at 0) 0 = ap (λ (u : ℕ). getD ps u 0) (getD-take count row at 0 l) in
           too-low masks ps ms floor (getD row k 0) (omega arith)
@@ -138,7 +139,7 @@ returns-2 c =
     let l = c .before .before .before .before .before .before .before .loop in
     sym (scan-is (a .args .masks .now) (a .args .prio .now) (a .args .mask .now) (a .args .row .now) (a .args .count) (a .args .floor) (a .pre) (l .at) (l .inv .0) (omega arith) (l .inv .2)
     (λ h. and-both (ltb (a .args .floor) (getD (a .args .prio .now) (getD (a .args .row .now) (l .at) 0) 0)) (findable (a .args .masks .now) (a .args .prio .now) (a .args .mask .now) (getD (a .args .row .now) (l .at) 0))
-      (lt-ltb _ _ (c .before .before .before .if1 .left)) (sym (c .before .has-lower-cpu .ensures) ∙ c .if2 .taken)))
+    (lt-ltb _ _ (c .before .before .before .if1 .left)) (sym (c .before .has-lower-cpu .ensures) ∙ c .if2 .taken)))
 
 add-at : tie.Need-add-at Inv-loop μ-loop
 add-at c = omega arith
@@ -150,12 +151,11 @@ loop-again : tie.Need-loop-again Inv-loop μ-loop
 unfolding findable
 loop-again c =
     let a = c .before .before .before .before .before .before .before .before .before .before .before in
-    let l = c .before .before .before .before .before .before .before .loop in
-    (
+    let l = c .before .before .before .before .before .before .before .loop in (
       omega arith,
       omega arith,
       more (λ (k : ℕ). wanted (a .args .masks .now) (a .args .prio .now) (a .args .mask .now) (a .args .floor) (getD (a .args .row .now) k 0) ≡ false) (l .at) (l .inv .2)
-      (unwanted (a .args .masks .now) (a .args .prio .now) (a .args .mask .now) (a .args .floor) (getD (a .args .row .now) (l .at) 0) (sym (c .before .has-lower-cpu .ensures) ∙ c .if2 .left)),
+          (unwanted (a .args .masks .now) (a .args .prio .now) (a .args .mask .now) (a .args .floor) (getD (a .args .row .now) (l .at) 0) (sym (c .before .has-lower-cpu .ensures) ∙ c .if2 .left)),
     )
 
 returns-3 : tie.Need-returns-3 Inv-loop μ-loop
