@@ -17,7 +17,9 @@ use Rattle.bits.proofs.Word.{bit-and, bit-of-zero}
 use Rattle.bits.proofs.Search.{first-holds, first-at-most, lowest-bit, lowest-lt, lowest-at-most}
 use Rattle.cpupri.specs.Level.{levelCount, cpuPlaces, invalid}
 use Rattle.cpupri.specs.Record.{masksOf, maskAt}
-use Rattle.cpupri.specs.Found.{Answer, without, allowedAt, anyAt, lowestLevel, lowestCpus}
+use Rattle.cpupri.specs.Found.{allowedAt, anyAt, lowestLevel, lowestFound}
+use Rattle.cpupri.specs.declared.find.Found.{Found}
+use Rattle.cpupri.specs.declared.find.Found.the-variants.{Cpus, Nothing}
 use Rattle.cpupri.proofs.Moved.{mask-at}
 use Rattle.cpupri.proofs.Agrees.{mask-bit}
 
@@ -106,16 +108,16 @@ module _ (levels : List ℕ) (places : length levels ≡ cpuPlaces) (mask : ℕ)
 
 -- ---- the answer
 
--- an answer with a level is that of the search, and one without says that there is none
-pub answer-cpus : (masks : List ℕ) (below mask : ℕ) → lowestLevel masks below mask < below
-    → lowestCpus masks below mask ≡ record { number = 0; level = lowestLevel masks below mask; mask = allowedAt masks mask (lowestLevel masks below mask) }
-unfolding lowestCpus
-answer-cpus masks below mask h =
-    ap (λ (b : Bool). cond b (record { number = 0; level = lowestLevel masks below mask; mask = allowedAt masks mask (lowestLevel masks below mask) }) (without 0))
+-- a level that is found comes with its allowed CPUs
+pub finds : (masks : List ℕ) (below mask : ℕ) → lowestLevel masks below mask < below
+    → lowestFound masks below mask ≡ Cpus (lowestLevel masks below mask) (allowedAt masks mask (lowestLevel masks below mask))
+unfolding lowestFound
+finds masks below mask h =
+    ap (λ (b : Bool). cond b (Cpus (lowestLevel masks below mask) (allowedAt masks mask (lowestLevel masks below mask))) Nothing)
     (lt-ltb (lowestLevel masks below mask) below h)
 
-pub answer-none : (masks : List ℕ) (below mask : ℕ) → below ≤ lowestLevel masks below mask → lowestCpus masks below mask ≡ without 0
-unfolding lowestCpus
-answer-none masks below mask h =
-    ap (λ (b : Bool). cond b (record { number = 0; level = lowestLevel masks below mask; mask = allowedAt masks mask (lowestLevel masks below mask) }) (without 0))
+pub finds-nothing : (masks : List ℕ) (below mask : ℕ) → below ≤ lowestLevel masks below mask → lowestFound masks below mask ≡ Nothing
+unfolding lowestFound
+finds-nothing masks below mask h =
+    ap (λ (b : Bool). cond b (Cpus (lowestLevel masks below mask) (allowedAt masks mask (lowestLevel masks below mask))) Nothing)
     (le-ltb (lowestLevel masks below mask) below h)

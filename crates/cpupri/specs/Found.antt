@@ -57,11 +57,10 @@ anyAt masks mask l = not (eqb (allowedAt masks mask l) 0)
 unfoldable pub lowestLevel : List ℕ → ℕ → ℕ → ℕ
 lowestLevel masks level mask = first (anyAt masks mask) level
 
--- and those CPUs; none exactly if there is no such level
-unfoldable pub lowestCpus : List ℕ → ℕ → ℕ → Answer
-lowestCpus masks level mask =
-    let l = lowestLevel masks level mask in
-    cond (ltb l level) (record { number = 0; level = l; mask = allowedAt masks mask l }) (without 0)
+-- and those CPUs; nothing exactly if there is no such level
+unfoldable pub lowestFound : List ℕ → ℕ → ℕ → Found
+lowestFound masks level mask =
+    let l = lowestLevel masks level mask in cond (ltb l level) (Cpus l (allowedAt masks mask l)) Nothing
 
 -- what the finder refuses, in the paper's order
 unfoldable pub findChecks : ℕ → Record → ℕ → ℕ → List Check
@@ -78,4 +77,4 @@ unless zero a = a
 unless (suc k) a = without (suc k)
 
 unfoldable pub found : ℕ → Record → ℕ → ℕ → Answer
-found n r level mask = unless (refusal (findChecks n r level mask)) (lowestCpus (r .masks) level mask)
+found n r level mask = unless (refusal (findChecks n r level mask)) (answerOf (lowestFound (r .masks) level mask))

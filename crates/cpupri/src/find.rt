@@ -3,7 +3,7 @@
 ghost use mathlib.Core.Path.{_≡_};
 ghost use Prim.Native.Nat.{_≤_};
 ghost use Rattle.cpupri.specs.Level.{levelCount, cpuPlaces};
-ghost use Rattle.cpupri.specs.Found.{maskFits, answerOf, lowestCpus, found};
+ghost use Rattle.cpupri.specs.Found.{maskFits, answerOf, lowestFound, found};
 use super::consistent::is_consistent;
 use super::record::CPUS;
 use super::record::LEVELS;
@@ -55,7 +55,7 @@ pub fn mask_fits(n: usize, mask: u64) -> bool
 // The search itself, over a record's masks.
 pub fn lowest(masks: &[u64; LEVELS], below: usize, mask: u64) -> Found
     requires { ⌜ below ≤ levelCount ⌝ }
-    ensures { λ a. ⌜ answerOf a ≡ lowestCpus (now (masks .entry)) below mask ⌝ }
+    ensures { λ a. ⌜ a ≡ lowestFound (now (masks .entry)) below mask ⌝ }
 {
     let mut level = 0;
     while level < below {

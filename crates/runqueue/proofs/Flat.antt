@@ -12,6 +12,7 @@ use Rattle.rules.specs.Machine.{taskPlaces}
 use Rattle.rules.specs.Tables.{nothing, rowsOf, padded, flatOf, rowCounts}
 use Rattle.rules.proofs.Lists.{in-getD}
 use Rattle.rules.proofs.Tables.{Fitting, length-padded, read-written, length-rowsOf, length-flat}
+use Rattle.runqueue.proofs.Places.{padded-in}
 use Rattle.runqueue.specs.Row.{HoldsRow}
 use Rattle.runqueue.specs.Table.{HoldsRows, rowAt, rowsWith}
 
@@ -110,14 +111,21 @@ module _ (counts rows : List ℕ) (held : HoldsRows counts rows) (c : ℕ) (hc :
   pub counts-become : (q : List ℕ) → set counts c (length q) ≡ rowCounts (rowsWith counts rows c q)
   counts-become q = ap (λ (ks : List ℕ). set ks c (length q)) (held .counted) ∙ counts-set (rowsOf counts rows) c q
 
+  -- place i of the row stands at the row's start and i
+  pub place-at : (i : ℕ) → i < length (rowAt counts rows c) → getD rows (c * taskPlaces + i) 0 ≡ getD (rowAt counts rows c) i 0
+  place-at i h =
+      let start : taskPlaces * c + i ≡ c * taskPlaces + i = omega arith in
+      let inside : i < taskPlaces = omega (arith, held .fits c) in
+      ap (λ (k : ℕ). getD rows k 0) (sym start) ∙ sym (getD-drop (taskPlaces * c) rows i 0)
+      ∙ sym (getD-take taskPlaces (drop (taskPlaces * c) rows) i 0 inside)
+      ∙ ap (λ (l : List ℕ). getD l i 0) part-row ∙ padded-in (rowAt counts rows c) i h
+
   -- the first place of a row that is not empty is its first task
   pub first-place : (u : ℕ) (us : List ℕ) → rowAt counts rows c ≡ u ∷ us → getD rows (c * taskPlaces) 0 ≡ u
-  unfolding padded
   first-place u us e =
-      let start : taskPlaces * c + 0 ≡ c * taskPlaces = omega arith in
-      ap (λ (i : ℕ). getD rows i 0) (sym start) ∙ sym (getD-drop (taskPlaces * c) rows 0 0)
-      ∙ sym (getD-take taskPlaces (drop (taskPlaces * c) rows) 0 0 (omega arith))
-      ∙ ap (λ (l : List ℕ). getD l 0 0) (part-row ∙ ap padded e)
+      let start : c * taskPlaces + 0 ≡ c * taskPlaces = omega arith in
+      let some : length (rowAt counts rows c) ≡ suc (length us) = ap length e in
+      ap (λ (i : ℕ). getD rows i 0) (sym start) ∙ place-at 0 (omega arith) ∙ ap (λ (l : List ℕ). getD l 0 0) e
 
 -- what is written is held
 pub holds-written : (rs : List (List ℕ)) → Fitting rs → HoldsRows (rowCounts rs) (flatOf rs)

@@ -7,10 +7,10 @@ use mathlib.Core.List.{List, [], _∷_, _++_}
 use Prim.Native.Nat.{ℕ, zero, suc, _+_, _-_, _≤_, _<_, zero-le, suc-le-suc}
 use native.Mathlib.Nat.{not-suc-le-zero, le-of-suc-le-suc, zero-lt-suc}
 use native.Mathlib.Omega.{arith}
-use lib.Dec.{eqb, ltb}
+use lib.Dec.{eqb, leb}
 use lib.ListN.{length, getD, replicate, length-replicate, getD-replicate, List·getD-append}
 use lib.Seq.{getD-append-add}
-use borrow.Author.Tests.{eqb-true, eqb-false, eq-eqb}
+use borrow.Author.Tests.{eqb-true, eqb-false, leb-true, leb-false}
 use Rattle.rules.specs.Lists.{In, Falling, place, insertBefore, delete}
 use Rattle.rules.specs.Machine.{taskPlaces}
 use Rattle.rules.specs.Tables.{nothing, padded}
@@ -140,6 +140,35 @@ ahead-is p (y ∷ ys) zero h b t = ap (λ (x : Bool). cond x 0 (suc (ahead p ys)
 ahead-is p (y ∷ ys) (suc i) h b t =
     ap (λ (x : Bool). cond x 0 (suc (ahead p ys))) (b zero (zero-lt-suc i))
     ∙ ap suc (ahead-is p ys i (le-of-suc-le-suc h) (λ k l. b (suc k) (suc-le-suc l)) (λ l. t (suc-le-suc l)))
+
+-- none before it passes, and where it is within the list it does
+pub ahead-before : (p : ℕ → Bool) (xs : List ℕ) (k : ℕ) → k < ahead p xs → p (getD xs k 0) ≡ false
+unfolding ahead
+ahead-before p [] k h = absurd (not-suc-le-zero h)
+ahead-before p (y ∷ ys) k h = go (p y) refl k h (ahead-before p ys)
+  where
+    go : (b : Bool) → p y ≡ b → (k : ℕ) → k < cond b 0 (suc (ahead p ys)) → ((k : ℕ) → k < ahead p ys → p (getD ys k 0) ≡ false) → p (getD (y ∷ ys) k 0) ≡ false
+    go true e k l rest = absurd (not-suc-le-zero l)
+    go false e zero l rest = e
+    go false e (suc k) l rest = rest k (le-of-suc-le-suc l)
+
+pub ahead-here : (p : ℕ → Bool) (xs : List ℕ) → ahead p xs < length xs → p (getD xs (ahead p xs) 0) ≡ true
+unfolding ahead
+ahead-here p [] h = absurd (not-suc-le-zero h)
+ahead-here p (y ∷ ys) h = go (p y) refl h (ahead-here p ys)
+  where
+    go : (b : Bool) → p y ≡ b → cond b 0 (suc (ahead p ys)) < suc (length ys) → (ahead p ys < length ys → p (getD ys (ahead p ys) 0) ≡ true)
+        → p (getD (y ∷ ys) (cond b 0 (suc (ahead p ys))) 0) ≡ true
+    go true e l rest = e
+    go false e l rest = rest (le-of-suc-le-suc l)
+
+-- what stands at i stands at i or earlier
+pub place-le : (x : ℕ) (xs : List ℕ) (i : ℕ) → getD xs i 0 ≡ x → place x xs ≤ i
+place-le x xs i e = go (leb (place x xs) i) refl
+  where
+    go : (b : Bool) → leb (place x xs) i ≡ b → place x xs ≤ i
+    go true t = leb-true (place x xs) i t
+    go false t = absurd (place-before x xs i (leb-false (place x xs) i t) e)
 
 -- along a row the measure never rises, place by place
 pub falling-at : (p : ℕ → ℕ) (xs : List ℕ) → Falling p xs → (i j : ℕ) → i ≤ j → j < length xs → p (getD xs j 0) ≤ p (getD xs i 0)

@@ -9,7 +9,7 @@ use borrow.Author.Tests.{not-true, not-false, le-leb, lt-leb, leb-true}
 use Rattle.bits.proofs.Tests.{and-right}
 use Rattle.cpupri.specs.Level.{levelCount}
 use Rattle.cpupri.specs.Consistent.{consistent}
-use Rattle.cpupri.specs.Found.{Answer, unless, without, refusal, sizeFits, maskFits, findChecks, lowestCpus, found}
+use Rattle.cpupri.specs.Found.{Answer, unless, without, refusal, sizeFits, maskFits, findChecks, answerOf, lowestFound, found}
 use Rattle.cpupri.specs.declared.record.Record.{Record}
 use Rattle.cpupri.proofs.find.find.Statement.{statement}
 use Rattle.cpupri.proofs.find.find.Tie as tie
@@ -20,9 +20,9 @@ answer size good high fit a = unless (cond (not size) 1 (cond (not good) 2 (cond
 
 found-is : (n : ℕ) (r : Record) (level mask : ℕ) {size good high fit : Bool}
     → sizeFits n ≡ size → consistent n r ≡ good → leb levelCount level ≡ high → maskFits n mask ≡ fit
-    → found n r level mask ≡ answer size good high fit (lowestCpus (r .masks) level mask)
+    → found n r level mask ≡ answer size good high fit (answerOf (lowestFound (r .masks) level mask))
 unfolding found findChecks refusal
-found-is n r level mask p q s t = λ i. answer (p i) (q i) (s i) (t i) (lowestCpus (r .masks) level mask)
+found-is n r level mask p q s t = λ i. answer (p i) (q i) (s i) (t i) (answerOf (lowestFound (r .masks) level mask))
 
 returns : tie.Need-returns
 unfolding sizeFits
@@ -64,7 +64,7 @@ returns-5 : tie.Need-returns-5
 unfolding sizeFits
 returns-5 c =
     let a = c .before .before .before .before .before .before .before .before .before .args in
-    c .lowest .ensures ∙ sym (found-is (a .n) (a .t2) (a .level) (a .mask) (not-false (sizeFits (c .before .before .before .before .before .before .before .before .before .args .n)) (c .before .before .before .before .before .before .before .before .if1 .left)) (sym (c .before .before .before .before .before .before .before .is-consistent .ensures) ∙ not-false (c .before .before .before .before .before .before .before .is-consistent .result) (c .before .before .before .before .before .before .if2 .left)) (lt-leb 102 (c .before .before .before .before .before .before .before .before .before .args .level) (c .before .before .before .before .before .if3 .left)) (sym (c .before .before .before .before .mask-fits .ensures) ∙ not-false (c .before .before .before .before .mask-fits .result) (c .before .before .before .if4 .left)))
+    ap answerOf (c .lowest .ensures) ∙ sym (found-is (a .n) (a .t2) (a .level) (a .mask) (not-false (sizeFits (c .before .before .before .before .before .before .before .before .before .args .n)) (c .before .before .before .before .before .before .before .before .if1 .left)) (sym (c .before .before .before .before .before .before .before .is-consistent .ensures) ∙ not-false (c .before .before .before .before .before .before .before .is-consistent .result) (c .before .before .before .before .before .before .if2 .left)) (lt-leb 102 (c .before .before .before .before .before .before .before .before .before .args .level) (c .before .before .before .before .before .if3 .left)) (sym (c .before .before .before .before .mask-fits .ensures) ∙ not-false (c .before .before .before .before .mask-fits .result) (c .before .before .before .if4 .left)))
 
 pub find-spec : {M : Type 1} → statement M
 find-spec =

@@ -10,7 +10,9 @@ use borrow.Author.Count.{below-more}
 use borrow.Author.Tests.{eq-eqb, ne-eqb, lt-ltb, le-ltb}
 use Rattle.bits.specs.Bit.{first}
 use Rattle.bits.proofs.Search.{first-is, first-none}
-use Rattle.cpupri.specs.Found.{Answer, without, allowedAt, anyAt, lowestLevel, lowestCpus}
+use Rattle.cpupri.specs.Found.{allowedAt, anyAt, lowestLevel, lowestFound}
+use Rattle.cpupri.specs.declared.find.Found.{Found}
+use Rattle.cpupri.specs.declared.find.Found.the-variants.{Cpus, Nothing}
 use Rattle.cpupri.proofs.find.lowest.Statement.{statement}
 use Rattle.cpupri.proofs.find.lowest.Tie as tie
 
@@ -18,18 +20,18 @@ none : {k : ℕ} → k < 0 → ⊥
 none h = omega arith
 
 -- the answer at level l
-abbrev chosen : List ℕ → ℕ → ℕ → ℕ → Answer
-chosen masks below mask l = cond (ltb l below) (record { number = 0; level = l; mask = allowedAt masks mask l }) (without 0)
+abbrev chosen : List ℕ → ℕ → ℕ → ℕ → Found
+chosen masks below mask l = cond (ltb l below) (Cpus l (allowedAt masks mask l)) (Nothing)
 
-at-end : (masks : List ℕ) (below mask : ℕ) → chosen masks below mask below ≡ without 0
+at-end : (masks : List ℕ) (below mask : ℕ) → chosen masks below mask below ≡ Nothing
 at-end masks below mask =
-    ap (λ (b : Bool). cond b (record { number = 0; level = below; mask = allowedAt masks mask below }) (without 0)) (le-ltb below below (omega arith))
+    ap (λ (b : Bool). cond b (Cpus below (allowedAt masks mask below)) (Nothing)) (le-ltb below below (omega arith))
 
 at-level : (masks : List ℕ) (below mask l : ℕ) → l < below → lowestLevel masks below mask ≡ l
-    → lowestCpus masks below mask ≡ record { number = 0; level = l; mask = allowedAt masks mask l }
-unfolding lowestCpus
+    → lowestFound masks below mask ≡ Cpus l (allowedAt masks mask l)
+unfolding lowestFound
 at-level masks below mask l h e =
-    ap (chosen masks below mask) e ∙ ap (λ (b : Bool). cond b (record { number = 0; level = l; mask = allowedAt masks mask l }) (without 0)) (lt-ltb l below h)
+    ap (chosen masks below mask) e ∙ ap (λ (b : Bool). cond b (Cpus l (allowedAt masks mask l)) (Nothing)) (lt-ltb l below h)
 
 abbrev Inv-loop : tie.InvT-loop
 Inv-loop masks below mask level₀ level = (level ≤ below) × ((k : ℕ) → k < level → anyAt masks mask k ≡ false)
@@ -50,7 +52,7 @@ cast-t11 : tie.Need-cast-t11 Inv-loop μ-loop
 cast-t11 c = omega arith
 
 returns : tie.Need-returns Inv-loop μ-loop
-unfolding lowestCpus lowestLevel allowedAt anyAt
+unfolding lowestFound lowestLevel allowedAt anyAt
 returns c =
     let a = c .before .before .before .before .args in
     let loop = c .before .before .before .loop in
@@ -72,7 +74,7 @@ loop-again c =
     (omega arith, below-more _ _ (loop .inv .1) (ap not (eq-eqb (allowedAt (a .masks .now) (a .mask) (loop .level)) 0 (c .if1 .left))))
 
 returns-2 : tie.Need-returns-2 Inv-loop μ-loop
-unfolding lowestCpus lowestLevel
+unfolding lowestFound lowestLevel
 returns-2 c =
     let a = c .before .before .args in
     let loop = c .before .loop in
