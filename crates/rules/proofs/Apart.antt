@@ -66,8 +66,8 @@ no-task m t s h =
     past e = subst (λ (x : ℕ). x ≤ t) (sym e) h
 
 -- so a runnable one is a task place
-pub runnable-place : (m : Machine) (t : ℕ) → Shape m → taskOf m t .state ≡ runnable → t < taskPlaces
-runnable-place m t s r = go (ltb t taskPlaces) refl
+pub shaped-place : (m : Machine) (t : ℕ) → Shape m → taskOf m t .state ≡ runnable → t < taskPlaces
+shaped-place m t s r = go (ltb t taskPlaces) refl
   where
     go : (b : Bool) → ltb t taskPlaces ≡ b → t < taskPlaces
     go true e = ltb-true t taskPlaces e
@@ -108,9 +108,12 @@ fit-of n τ (is-free e) h = absurd (h (ap (λ (x : Task). x .state) e))
 fit-of n τ (is-asleep s f) h = f
 fit-of n τ (is-runnable s f) h = f
 
--- a runnable task fits
+-- a runnable task is a task place, and fits
+pub runnable-place : (m : Machine) (t : ℕ) → WellFormed m → taskOf m t .state ≡ runnable → t < taskPlaces
+runnable-place m t w r = shaped-place m t (w .shape) r
+
 pub runnable-fit : (m : Machine) (t : ℕ) → WellFormed m → taskOf m t .state ≡ runnable → Fit (m .n) (taskOf m t)
-runnable-fit m t w s = fit-of (m .n) (taskOf m t) (w .tasks t (runnable-place m t (w .shape) s)) (λ z. omega arith)
+runnable-fit m t w s = fit-of (m .n) (taskOf m t) (w .tasks t (runnable-place m t w s)) (λ z. omega arith)
 
 -- what stands in row c is runnable there
 pub in-row : (m : Machine) (t c : ℕ) → WellFormed m → In t (row m c) → (taskOf m t .state ≡ runnable) × (taskOf m t .cpu ≡ c)
@@ -209,7 +212,7 @@ module _ (t : ℕ) (m : Machine) (p : Apart t m) where
   -- ---- room
 
   pub in-place : (c u : ℕ) → In u (row m c) → u < taskPlaces
-  in-place c u i = runnable-place m u (p .shape) (standing-means (taskOf m u) c (omega (arith, p .rows u c (in-other t m p c u i))) .0)
+  in-place c u i = shaped-place m u (p .shape) (standing-means (taskOf m u) c (omega (arith, p .rows u c (in-other t m p c u i))) .0)
 
   -- No insertion finds its row full: beside task t, which stands in no row, a row has at most 511 tasks.
   pub room : t < taskPlaces → (c : ℕ) → length (row m c) < taskPlaces

@@ -333,7 +333,7 @@ module _ (c : ℕ) (m : Machine) (w : WellFormed m) where
   first-is t ts e = in-row m t c w (subst (In t) (sym e) (in-here t ts))
 
   keep-first : (t : ℕ) → taskOf m t .state ≡ runnable → taskOf m t .cpu ≡ c → WellFormed (requeue t c m)
-  keep-first t s e = subst (λ (d : ℕ). WellFormed (requeue t d m)) e (keep-requeue t m w (runnable-place m t (w .shape) s) s)
+  keep-first t s e = subst (λ (d : ℕ). WellFormed (requeue t d m)) e (keep-requeue t m w (runnable-place m t w s) s)
 
   keep-yielded : WellFormed (yielded c m)
   keep-yielded = go (row m c) refl
@@ -346,7 +346,7 @@ module _ (c : ℕ) (m : Machine) (w : WellFormed m) where
   keep-tickedTask t s h = policy (eqb (taskOf m t .policy) rr)
     where
       place : t < taskPlaces
-      place = runnable-place m t (w .shape) s
+      place = runnable-place m t w s
 
       again : WellFormed (requeue t c m)
       again = keep-first t s h

@@ -161,7 +161,7 @@ module _ (m : Machine) (w : WellFormed m) (log : List ℕ) where
         counts = count ∙ w .shape .rows;
         log = h;
         stored = test-stored (rowCounts (m .rows)) (flatOf (m .rows)) (long ∙ ap (λ (k : ℕ). taskPlaces * k) (sym count))
-            (written-stored (m .rows) fitting (λ c u i. runnable-place m u (w .shape) (in-row m u c w i .0)));
+            (written-stored (m .rows) fitting (λ c u i. runnable-place m u w (in-row m u c w i .0)));
         levels = ap (λ (x : Machine). recordOf (levels x)) (sym written-machine);
       }
     where

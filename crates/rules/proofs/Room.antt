@@ -17,7 +17,7 @@ use Rattle.rules.proofs.Step.{step-room}
 
 -- W3's counts: no row has more than 512 tasks
 pub row-fits : (m : Machine) (c : ℕ) → WellFormed m → length (row m c) ≤ taskPlaces
-row-fits m c w = pigeonhole taskPlaces (row m c) (λ u. once m u c w) (λ u i. runnable-place m u (w .shape) (in-row m u c w i .0))
+row-fits m c w = pigeonhole taskPlaces (row m c) (λ u. once m u c w) (λ u i. runnable-place m u w (in-row m u c w i .0))
 
 -- wake: any row; the task's state does not matter to the rows
 pub room-idle : (m : Machine) (t c : ℕ) → WellFormed m → t < taskPlaces → taskOf m t .state ≢ runnable → length (row m c) < taskPlaces
@@ -25,7 +25,7 @@ room-idle m t c w h n = room t m (apart-idle t m w n) h c
 
 -- priority and mask: the task has left its row, and enters that of any CPU
 pub room-left : (m : Machine) (t c : ℕ) → WellFormed m → taskOf m t .state ≡ runnable → length (row (dequeue t (taskOf m t .cpu) m) c) < taskPlaces
-room-left m t c w s = room t (dequeue t (taskOf m t .cpu) m) (apart-dequeue t m w s) (runnable-place m t (w .shape) s) c
+room-left m t c w s = room t (dequeue t (taskOf m t .cpu) m) (apart-dequeue t m w s) (runnable-place m t w s) c
 
 -- tick and yield: the first task of a row has left it
 pub room-first : (m : Machine) (t c : ℕ) (ts : List ℕ) → WellFormed m → row m c ≡ t ∷ ts → length (row (dequeue t c m) c) < taskPlaces

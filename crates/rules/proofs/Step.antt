@@ -54,7 +54,7 @@ module _ (m : Machine) (v : Move) (w : WellFormed m) (k : Chosen m v) where
   pub keep-step : WellFormed moved
   keep-step =
       subst (λ (c : ℕ). WellFormed (enqueue t (v .target) (dequeue t c m))) (k .origin)
-      (keep-move t m w (runnable-place m t (w .shape) (k .runs)) (k .runs) (v .target) (k .small) (k .may))
+      (keep-move t m w (runnable-place m t w (k .runs)) (k .runs) (v .target) (k .small) (k .may))
 
   pub origin-small : v .origin < m .n
   origin-small = subst (λ (c : ℕ). c < m .n) (k .origin) (runnable-fit m t w (k .runs) .cpu)
@@ -63,7 +63,7 @@ module _ (m : Machine) (v : Move) (w : WellFormed m) (k : Chosen m v) where
   pub step-room : length (row (dequeue t (v .origin) m) (v .target)) < taskPlaces
   step-room =
       subst (λ (c : ℕ). length (row (dequeue t c m) (v .target)) < taskPlaces) (k .origin)
-      (room t (dequeue t (taskOf m t .cpu) m) (apart-home t m w (runnable-place m t (w .shape) (k .runs)) (k .runs)) (runnable-place m t (w .shape) (k .runs)) (v .target))
+      (room t (dequeue t (taskOf m t .cpu) m) (apart-home t m w (runnable-place m t w (k .runs)) (k .runs)) (runnable-place m t w (k .runs)) (v .target))
 
   -- the row that the mover waits in: its first stays
   pub record Origin : Type 0 where

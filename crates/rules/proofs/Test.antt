@@ -20,7 +20,7 @@ use Rattle.bits.proofs.Tests.{and-both}
 use Rattle.rules.proofs.Bools.{both}
 use Rattle.rules.proofs.Checks.{mask-good, good-mask}
 use Rattle.rules.proofs.Lists.{in-here, in-there, in-cons, not-in-nil}
-use Rattle.rules.proofs.Apart.{runnable-place, standing-home, standing-means, in-row}
+use Rattle.rules.proofs.Apart.{shaped-place, standing-home, standing-means, in-row}
 
 -- ---- walks
 
@@ -274,7 +274,7 @@ test-well-formed m h t =
         (each-at freeTask (soundTask m) 0 (tasks m) (front .0) u u (omega arith) (subst (λ (n : ℕ). u < n) (sym (tasks-length m s)) l)))
 
     used : (u : ℕ) → taskOf m u .state ≡ runnable → u < taskPlaces
-    used u r = runnable-place m u s r
+    used u r = shaped-place m u s r
 
     in-test : (c : ℕ) → c < m .n → (each (λ i u. eqb (standing (taskOf m u) c) 1) 0 (row m c) ≡ true) × (falls (prioOf m) (row m c) ≡ true)
     in-test c l =
