@@ -2,3 +2,4 @@
 // lowest level, until no task is movable.
 pub mod pick;
 pub mod scan;
+pub mod settle;

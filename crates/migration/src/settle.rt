@@ -1,0 +1,88 @@
+// Steps until none applies, each with an entry in the move log.
+ghost use mathlib.Core.Path.{_≡_};
+ghost use Prim.Native.Nat.{ℕ, _+_, _*_, _≤_, _<_};
+ghost use lib.ListN.{length, getD, set};
+ghost use Rattle.bits.specs.Bit.{lowest};
+ghost use Rattle.cpupri.specs.Level.{levelOf};
+ghost use Rattle.cpupri.specs.Found.{lowestLevel, allowedAt};
+ghost use Rattle.rules.specs.Machine.{Machine, taskPlaces, highestPriority, enqueue, dequeue};
+ghost use Rattle.rules.specs.Migration.{settled};
+ghost use Rattle.rules.specs.Tables.{logPlaces};
+ghost use Rattle.placement.specs.Held.{Held};
+ghost use Rattle.migration.specs.Settling.{Settling, Stepping, Ended};
+use cpupri::find::Found;
+use cpupri::level::Level;
+use cpupri::record::LEVELS;
+use cpupri::record::Record;
+use super::pick::pick;
+
+// How many steps were taken, and the record with which they end.
+pub struct Steps {
+    pub moves: usize,
+    pub record: Record,
+}
+
+// Takes the steps of a machine of n CPUs. There are at most n - 1, so the log has room.
+pub fn settle(n: usize, prio: &[u8], cpu: &mut [u8], mask: &[u64], rows: &mut [u16], counts: &mut [u16], log: &mut [u16], record: Record) -> Steps
+    requires { ⌜ ((m : Machine) × (Settling m (now prio) (now cpu) (now mask) (now counts) (now rows) «record» × (n ≡ m .n))) ⌝ }
+    requires { ⌜ length (now log) ≡ logPlaces ⌝ }
+    ensures { λ r. ⌜ ((m : Machine) → Settling m (now (prio .entry)) (now (cpu .entry)) (now (mask .entry)) (now (counts .entry)) (now (rows .entry)) «record» → n ≡ m .n → Ended (settled m) (now (prio .entry)) (now (cpu .exit)) (now (counts .exit)) (now (rows .exit)) (now (log .entry)) (now (log .exit)) (r .moves) (r .«record»)) ⌝ }
+{
+    let mut moves = 0;
+    let mut r = record;
+    loop {
+        let mover = pick(n, prio, mask, rows, counts, &r.masks);
+        let priority = mover.priority;
+        if priority == 0 {
+            return Steps { moves, record: r };
+        }
+        let task = mover.task;
+        let origin = mover.origin;
+        let target = destination(&r.masks, priority, mask[task as usize]);
+        note(log, moves, task, origin, target);
+        r = migrate(rows, counts, prio, cpu, origin, target, task, r);
+        moves += 1;
+    }
+}
+
+// One step: the mover leaves its row and enters the destination's. It waited, so its old CPU's level
+// stays.
+fn migrate(rows: &mut [u16], counts: &mut [u16], prio: &[u8], cpus: &mut [u8], origin: usize, target: usize, task: u16, record: Record) -> Record
+    requires { ⌜ ((m : Machine) × Stepping m (now prio) (now counts) (now rows) «record» task origin target) ⌝ }
+    requires { ⌜ length (now cpus) ≡ taskPlaces ⌝ }
+    ensures { λ r. ⌜ ((m : Machine) → Stepping m (now (prio .entry)) (now (counts .entry)) (now (rows .entry)) «record» task origin target → Held (enqueue task target (dequeue task origin m)) (now (prio .entry)) (now (counts .exit)) (now (rows .exit)) r) ⌝ }
+    ensures { λ r. ⌜ now (cpus .exit) ≡ set (now (cpus .entry)) task target ⌝ }
+{
+    runqueue::table::dequeue(rows, counts, origin, task);
+    placement::enter(rows, counts, prio, cpus, target, task, record)
+}
+
+// Of the CPUs of the mask, one of the lowest level; among equals the lowest-numbered.
+fn destination(masks: &[u64; LEVELS], priority: u8, mask: u64) -> usize
+    requires { ⌜ priority ≤ highestPriority ⌝ }
+    requires { ⌜ lowestLevel (now masks) (levelOf priority) mask < levelOf priority ⌝ }
+    ensures { λ r. ⌜ r ≡ lowest 64 (allowedAt (now (masks .entry)) mask (lowestLevel (now (masks .entry)) (levelOf priority) mask)) ⌝ }
+{
+    let level = Level::of_priority(priority);
+    let below = level.number as usize;
+    let found = cpupri::find::lowest(masks, below, mask);
+    match found {
+        Found::Cpus { level: _, mask: cpus } => bits::lowest_bit(cpus) as usize,
+        Found::Nothing => 0,
+        Found::Refused(_) => 0,
+    }
+}
+
+// Entry `entry` of the log: the mover, the CPU it waited on, its destination.
+fn note(log: &mut [u16], entry: usize, task: u16, origin: usize, target: usize)
+    requires { ⌜ entry * 3 + 2 < length (now log) ⌝ }
+    requires { ⌜ entry < 64 ⌝ }
+    requires { ⌜ origin < 64 ⌝ }
+    requires { ⌜ target < 64 ⌝ }
+    ensures { λ u. ⌜ now (log .exit) ≡ set (set (set (now (log .entry)) (entry * 3) task) (entry * 3 + 1) origin) (entry * 3 + 2) target ⌝ }
+{
+    let at = entry * 3;
+    log[at] = task;
+    log[at + 1] = origin as u16;
+    log[at + 2] = target as u16;
+}
