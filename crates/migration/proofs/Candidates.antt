@@ -37,7 +37,7 @@ use Rattle.migration.specs.declared.pick.Mover.{Mover}
 
 -- ---- tails
 
-tail-in : (u : ℕ) (r : List ℕ) → In u (tail r) → In u r
+pub tail-in : (u : ℕ) (r : List ℕ) → In u (tail r) → In u r
 tail-in u [] i = i
 tail-in u (x ∷ xs) i = in-there u x xs i
 

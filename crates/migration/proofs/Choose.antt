@@ -20,16 +20,13 @@ use Rattle.rules.specs.WellFormed.{WellFormed, Fit}
 use Rattle.rules.proofs.Apart.{in-row, runnable-fit}
 use Rattle.rules.proofs.Choice.{chosen, chosen-next, movable-one, Target, target-of}
 use Rattle.rules.proofs.Finder.{movable-found, found-level, found-destination}
-use Rattle.rules.proofs.Lists.{tails-in, in-tails, in-there, delete-behind}
+use Rattle.rules.proofs.Lists.{tails-in, delete-behind}
 use Rattle.rules.proofs.Record.{levels-below}
 use Rattle.rules.proofs.Step.{Origin, origin-row, origin-small}
 use Rattle.placement.proofs.Levels.{levels-row}
 use Rattle.migration.specs.Foremost.{Foremost, BestOf}
+use Rattle.migration.proofs.Candidates.{tail-in}
 use Rattle.migration.specs.declared.pick.Mover.{Mover}
-
-pub tail-in : (u : ℕ) (r : List ℕ) → In u (tail r) → In u r
-tail-in u [] i = i
-tail-in u (x ∷ xs) i = in-there u x xs i
 
 module _ (m : Machine) (w : WellFormed m) where
   -- a waiting task, by its row
@@ -75,20 +72,22 @@ module _ (m : Machine) (w : WellFormed m) where
           moves = f .moves;
           highest = λ u i h. let p = in-waiting u i in subst (λ (x : ℕ). prioOf m u ≤ x) (f .prio) (f .highest (p .0) (p .1) u (p .2) h);
           lowest-cpu = λ u i h q. let p = in-waiting u i in
-            subst (λ (x : ℕ). b .origin ≤ x) (sym (waits-on u (p .0) (p .2))) (f .lowest-cpu (p .0) (p .1) u (p .2) h (subst (λ (x : ℕ). x ≤ prioOf m u) (sym (f .prio)) q));
+              subst (λ (x : ℕ). b .origin ≤ x) (sym (waits-on u (p .0) (p .2))) (f .lowest-cpu (p .0) (p .1) u (p .2) h (subst (λ (x : ℕ). x ≤ prioOf m u) (sym (f .prio)) q));
           earliest = λ u i h q e. let p = in-waiting u i in
-            f .earliest u (subst (λ (d : ℕ). In u (tail (row m d))) (sym (waits-on u (p .0) (p .2)) ∙ e) (p .2)) h (subst (λ (x : ℕ). x ≤ prioOf m u) (sym (f .prio)) q);
+              f .earliest u (subst (λ (d : ℕ). In u (tail (row m d))) (sym (waits-on u (p .0) (p .2)) ∙ e) (p .2)) h (subst (λ (x : ℕ). x ≤ prioOf m u) (sym (f .prio)) q);
           small = aim .small;
           may = aim .may;
           below = subst (λ (l : ℕ). l < levelOf (prioOf m t)) (sym (found-level m w t mover-fit mover-found)) mover-found;
           lowest = aim .lowest;
-          nearest = aim .nearest
+          nearest = aim .nearest;
         })
       where
         right : target ≡ destination m t
         right = found-destination m w t mover-fit mover-found
+
         one : (c : ℕ) × (c < m .n) × (allowed m t c ≡ true) × (level m c < levelOf (prioOf m t))
         one = movable-one m t (f .moves)
+
         aim : Target m t target
         aim = subst (Target m t) (sym right) (target-of m t (one .0) (one .1) (one .2))
 
@@ -101,8 +100,10 @@ module _ (m : Machine) (w : WellFormed m) where
     where
       small : v .origin < m .n
       small = origin-small m v w k
+
       o : Origin m v w k
       o = origin-row m v w k
+
       same : rowLevel (prioOf m) (flag m (v .origin)) (delete (v .task) (row m (v .origin))) ≡ level m (v .origin)
       same =
           ap (λ (r : List ℕ). rowLevel (prioOf m) (flag m (v .origin)) (delete (v .task) r)) (o .is)

@@ -21,8 +21,8 @@ three : (p : List ℕ) (x y z : ℕ) (rest : List ℕ) (k a b c : ℕ) → lengt
 three p x y z rest k a b c e =
     ap (λ (l : List ℕ). set (set l (k + 1) b) (k + 2) c) (set-at p x (y ∷ z ∷ rest) a k e ∙ sym (append-assoc p (a ∷ []) (y ∷ z ∷ rest)))
     ∙ ap (λ (l : List ℕ). set l (k + 2) c)
-      (set-at (p ++ (a ∷ [])) y (z ∷ rest) b (k + 1) (length-append p (a ∷ []) ∙ ap (λ (n : ℕ). n + 1) e)
-      ∙ ap (λ (l : List ℕ). l) (append-assoc p (a ∷ []) (b ∷ z ∷ rest)) ∙ sym (append-assoc p (a ∷ b ∷ []) (z ∷ rest)))
+    (set-at (p ++ (a ∷ [])) y (z ∷ rest) b (k + 1) (length-append p (a ∷ []) ∙ ap (λ (n : ℕ). n + 1) e)
+    ∙ ap (λ (l : List ℕ). l) (append-assoc p (a ∷ []) (b ∷ z ∷ rest)) ∙ sym (append-assoc p (a ∷ b ∷ []) (z ∷ rest)))
     ∙ set-at (p ++ (a ∷ b ∷ [])) z rest c (k + 2) (length-append p (a ∷ b ∷ []) ∙ ap (λ (n : ℕ). n + 2) e)
     ∙ append-assoc p (a ∷ b ∷ []) (c ∷ rest) ∙ sym (append-assoc p (a ∷ b ∷ c ∷ []) rest)
 
@@ -33,10 +33,10 @@ logged-snoc l v old k e h =
     let n : ℕ = length (logNumbers l) in
     let size : length (logNumbers l) ≡ k * 3 = omega (arith, length-numbers l) in
     let next : length (logNumbers (l ++ (v ∷ []))) ≡ suc (suc (suc (length (logNumbers l)))) =
-        ap length (numbers-snoc l v) ∙ length-append (logNumbers l) (v .task ∷ v .origin ∷ v .target ∷ []) ∙ omega arith in
+    ap length (numbers-snoc l v) ∙ length-append (logNumbers l) (v .task ∷ v .origin ∷ v .target ∷ []) ∙ omega arith in
     ap (λ (rest : List ℕ). set (set (set (logNumbers l ++ rest) (k * 3) (v .task)) (k * 3 + 1) (v .origin)) (k * 3 + 2) (v .target))
-      (drop-cons old (length (logNumbers l)) 0 (omega arith)
-      ∙ ap (λ (t : List ℕ). getD old (length (logNumbers l)) 0 ∷ t) (drop-cons old (suc (length (logNumbers l))) 0 (omega arith)
-        ∙ ap (λ (t : List ℕ). getD old (suc (length (logNumbers l))) 0 ∷ t) (drop-cons old (suc (suc (length (logNumbers l)))) 0 (omega arith))))
+    (drop-cons old (length (logNumbers l)) 0 (omega arith)
+    ∙ ap (λ (t : List ℕ). getD old (length (logNumbers l)) 0 ∷ t) (drop-cons old (suc (length (logNumbers l))) 0 (omega arith)
+    ∙ ap (λ (t : List ℕ). getD old (suc (length (logNumbers l))) 0 ∷ t) (drop-cons old (suc (suc (length (logNumbers l)))) 0 (omega arith))))
     ∙ three (logNumbers l) _ _ _ (drop (suc (suc (suc (length (logNumbers l))))) old) (k * 3) (v .task) (v .origin) (v .target) size
     ∙ ap₂ (λ (ns : List ℕ) (i : ℕ). ns ++ drop i old) (sym (numbers-snoc l v)) (sym next)

@@ -3,3 +3,4 @@ pub mod Candidates
 pub mod Choose
 pub mod Taken
 pub mod Entries
+pub mod Going

@@ -10,11 +10,11 @@ ghost use Rattle.rules.specs.Migration.{settled};
 ghost use Rattle.rules.specs.Tables.{logPlaces};
 ghost use Rattle.placement.specs.Held.{Held};
 ghost use Rattle.migration.specs.Settling.{Settling, Stepping, Ended};
+use super::pick::pick;
 use cpupri::find::Found;
 use cpupri::level::Level;
 use cpupri::record::LEVELS;
 use cpupri::record::Record;
-use super::pick::pick;
 
 // How many steps were taken, and the record with which they end.
 pub struct Steps {
@@ -23,7 +23,16 @@ pub struct Steps {
 }
 
 // Takes the steps of a machine of n CPUs. There are at most n - 1, so the log has room.
-pub fn settle(n: usize, prio: &[u8], cpu: &mut [u8], mask: &[u64], rows: &mut [u16], counts: &mut [u16], log: &mut [u16], record: Record) -> Steps
+pub fn settle(
+    n: usize,
+    prio: &[u8],
+    cpu: &mut [u8],
+    mask: &[u64],
+    rows: &mut [u16],
+    counts: &mut [u16],
+    log: &mut [u16],
+    record: Record,
+) -> Steps
     requires { ⌜ ((m : Machine) × (Settling m (now prio) (now cpu) (now mask) (now counts) (now rows) «record» × (n ≡ m .n))) ⌝ }
     requires { ⌜ length (now log) ≡ logPlaces ⌝ }
     ensures { λ r. ⌜ ((m : Machine) → Settling m (now (prio .entry)) (now (cpu .entry)) (now (mask .entry)) (now (counts .entry)) (now (rows .entry)) «record» → n ≡ m .n → Ended (settled m) (now (prio .entry)) (now (cpu .exit)) (now (counts .exit)) (now (rows .exit)) (now (log .entry)) (now (log .exit)) (r .moves) (r .«record»)) ⌝ }
@@ -47,7 +56,16 @@ pub fn settle(n: usize, prio: &[u8], cpu: &mut [u8], mask: &[u64], rows: &mut [u
 
 // One step: the mover leaves its row and enters the destination's. It waited, so its old CPU's level
 // stays.
-fn migrate(rows: &mut [u16], counts: &mut [u16], prio: &[u8], cpus: &mut [u8], origin: usize, target: usize, task: u16, record: Record) -> Record
+fn migrate(
+    rows: &mut [u16],
+    counts: &mut [u16],
+    prio: &[u8],
+    cpus: &mut [u8],
+    origin: usize,
+    target: usize,
+    task: u16,
+    record: Record,
+) -> Record
     requires { ⌜ ((m : Machine) × Stepping m (now prio) (now counts) (now rows) «record» task origin target) ⌝ }
     requires { ⌜ length (now cpus) ≡ taskPlaces ⌝ }
     ensures { λ r. ⌜ ((m : Machine) → Stepping m (now (prio .entry)) (now (counts .entry)) (now (rows .entry)) «record» task origin target → Held (enqueue task target (dequeue task origin m)) (now (prio .entry)) (now (counts .exit)) (now (rows .exit)) r) ⌝ }
@@ -67,7 +85,10 @@ fn destination(masks: &[u64; LEVELS], priority: u8, mask: u64) -> usize
     let below = level.number as usize;
     let found = cpupri::find::lowest(masks, below, mask);
     match found {
-        Found::Cpus { level: _, mask: cpus } => bits::lowest_bit(cpus) as usize,
+        Found::Cpus {
+            level: _,
+            mask: cpus,
+        } => bits::lowest_bit(cpus) as usize,
         Found::Nothing => 0,
         Found::Refused(_) => 0,
     }

@@ -20,7 +20,8 @@ use Rattle.runqueue.specs.Table.{rowAt, rowsWith}
 use Rattle.placement.specs.Held.{Held, Entering}
 use Rattle.placement.proofs.Order.{holds, read-row, cpus-counted, fine-delete, held-row}
 use Rattle.migration.specs.Settling.{Stepping}
-use Rattle.migration.proofs.Choose.{tail-in, levels-left}
+use Rattle.migration.proofs.Candidates.{tail-in}
+use Rattle.migration.proofs.Choose.{levels-left}
 use Rattle.migration.proofs.settle.migrate.Statement.{statement}
 use Rattle.migration.proofs.settle.migrate.Tie as tie
 
@@ -46,11 +47,12 @@ module _ {ps ks flat : List ℕ} {r : Record} {t o d : ℕ} (m : Machine) (s : S
         cpu = k .small;
         task = runnable-place m t (s .well) (k .runs);
         high = runnable-fit m t (s .well) (k .runs) .prio-high;
-        room = room-step m v (s .well) (s .applies)
+        room = room-step m v (s .well) (s .applies);
       }
     where
       row-is : rowAt ks flat o ≡ row m o
       row-is = read-row m ps ks flat r (s .held) o
+
       left : Held (dequeue t o m) ps ks′ flat′ (recordOf (levels (dequeue t o m)))
       left = held-row m ps ks flat r o (delete t (row m o)) (s .held) leaves-small (fine-delete m t o (s .held .order) stands) ks′ flat′
           (ek ∙ ap (λ (q : List ℕ). rowCounts (rowsWith ks flat o (delete t q))) row-is)
@@ -60,8 +62,7 @@ dequeue-requires : tie.Need-dequeue-requires
 dequeue-requires c κs =
     let a = c .before .before .before .before .before .before in
     let m = a .pre .0 .0 in
-    let s = a .pre .0 .1 in
-    (
+    let s = a .pre .0 .1 in (
       holds m _ _ _ _ (s .held),
       (omega (arith, cpus-counted m _ _ _ _ (s .held), leaves-small m s), subst (In (a .args .task)) (sym (read-row m _ _ _ _ (s .held) (a .args .origin))) (stands m s)),
     )
@@ -83,11 +84,10 @@ same-length-3 : tie.Need-same-length-3
 same-length-3 c = search needs
 
 returns : tie.Need-returns
-returns c =
-    (
-      λ m s. c .before .before .before .before .before .before .enter .ensures .0 (dequeue (c .before .before .before .before .before .before .before .before .before .before .before .before .before .before .before .before .before .before .before .before .before .args .task) (c .before .before .before .before .before .before .before .before .before .before .before .before .before .before .before .before .before .before .before .before .before .args .origin) m) (entering m s _ _ (c .before .before .before .before .before .before .before .before .before .before .before .before .before .before .dequeue .ensures .1) (c .before .before .before .before .before .before .before .before .before .before .before .before .before .before .dequeue .ensures .0)),
-      c .before .before .before .before .before .before .enter .ensures .1,
-    )
+returns c = (
+  λ m s. c .before .before .before .before .before .before .enter .ensures .0 (dequeue (c .before .before .before .before .before .before .before .before .before .before .before .before .before .before .before .before .before .before .before .before .before .args .task) (c .before .before .before .before .before .before .before .before .before .before .before .before .before .before .before .before .before .before .before .before .before .args .origin) m) (entering m s _ _ (c .before .before .before .before .before .before .before .before .before .before .before .before .before .before .dequeue .ensures .1) (c .before .before .before .before .before .before .before .before .before .before .before .before .before .before .dequeue .ensures .0)),
+  c .before .before .before .before .before .before .enter .ensures .1,
+)
 
 pub migrate-spec : {M : Type 1} → statement M
 migrate-spec =

@@ -1,81 +1,144 @@
+-- `migration::settle::settle` meets its contract. The loop's invariant: the tables hold the machine that the steps so far lead to, and the log
+-- has their entries; there are fewer than n. Assumes nothing.
+use borrow.Author.Needs.{needs}
+use mathlib.Core.Path.{_≡_, refl, sym, ap, _∙_, subst}
+use mathlib.Core.List.{List}
+use mathlib.Core.Option.{some}
+use Prim.Native.Nat.{ℕ, _+_, _-_, _*_, _≤_, _<_}
+use native.Mathlib.Nat.{pos-of-ne-zero}
+use native.Mathlib.Omega.{arith}
+use lib.ListN.{length, getD, set}
+use Rattle.bits.specs.Bit.{lowest}
+use Rattle.cpupri.specs.Level.{levelOf}
+use Rattle.cpupri.specs.Found.{allowedAt, lowestLevel}
+use Rattle.cpupri.specs.declared.record.Record.{Record}
+use Rattle.rules.specs.Machine.{Machine, taskPlaces}
+use Rattle.rules.specs.Migration.{Move, Chosen, settled}
+use Rattle.rules.specs.WellFormed.{WellFormed}
+use Rattle.rules.proofs.Choice.{chosen}
+use Rattle.rules.proofs.Step.{origin-small}
+use Rattle.rules.proofs.Apart.{runnable-place}
+use Rattle.placement.specs.Held.{Held}
+use Rattle.migration.specs.Foremost.{Looking, Foremost, BestOf}
+use Rattle.migration.specs.Settling.{Settling, Stepping, Ended}
+use Rattle.migration.specs.declared.pick.Mover.{Mover}
+use Rattle.migration.proofs.Going.{Going, going-start, here, same-n, few, more-few, looking, going-end, going-found, going-high, going-next, going-on, going-cpus, going-rows, going-counts, going-log}
 use Rattle.migration.proofs.settle.settle.Statement.{statement}
 use Rattle.migration.proofs.settle.settle.Tie as tie
-use Rattle.migration.proofs.settle.settle.Reads as reads
-use Rattle.migration.proofs.settle.settle.Lts as lts
-use Rattle.migration.proofs.pick.pick.Reads as pick-reads
-use Rattle.migration.proofs.settle.destination.Reads as destination-reads
-use Rattle.migration.proofs.settle.migrate.Reads as migrate-reads
-use Rattle.migration.proofs.settle.note.Reads as note-reads
+
+module _ (m : Machine) (w : WellFormed m) (ps cs ms ks flat old log : List ℕ) (k : ℕ) (r : Record) (g : Going m ps cs ms ks flat old log k r) where
+  -- a candidate was picked
+  foremost : (n : ℕ) → n ≡ m .n → (b : Mover) → ((e : Machine) → Looking e ps ms ks flat (r .masks) → n ≡ e .n → BestOf e n b) → (b .priority ≡ 0 → ⊥)
+      → Foremost (g .reached) (g .reached .n) b
+  foremost n e b best z =
+      let here-n : n ≡ g .reached .n = e ∙ sym (same-n m w ps cs ms ks flat old log k r g) in
+      subst (λ (i : ℕ). BestOf (g .reached) i b) here-n (best (g .reached) (looking m w ps cs ms ks flat old log k r g) here-n) .some (pos-of-ne-zero z)
+
+  module _ (b : Mover) (f : Foremost (g .reached) (g .reached .n) b) where
+    taking : (d : ℕ) → d ≡ lowest 64 (allowedAt (r .masks) (getD ms (b .task) 0) (lowestLevel (r .masks) (levelOf (b .priority)) (getD ms (b .task) 0)))
+        → Chosen (g .reached) (record { task = b .task; origin = b .origin; target = d })
+    taking d e = chosen (g .reached) _ (here m w ps cs ms ks flat old log k r g) (going-next m w ps cs ms ks flat old log k r g b f d e)
+
+    task-small : b .task < taskPlaces
+    task-small = runnable-place (g .reached) (b .task) (here m w ps cs ms ks flat old log k r g) (taking _ refl .runs)
 
 abbrev Inv-loop : tie.InvT-loop
-Inv-loop n prio cpu₀ mask rows₀ counts₀ log₀ moves₀ r₀ cpu rows counts log moves r = ?
+Inv-loop n prio cpu₀ mask rows₀ counts₀ log₀ moves₀ r₀ cpu rows counts log moves r = (m : Machine) → Settling m prio cpu₀ mask counts₀ rows₀ r₀ → n ≡ m .n → Going m prio cpu mask counts rows log₀ log moves r
 
 abbrev μ-loop : tie.MeasureT-loop
-μ-loop n prio cpu₀ mask rows₀ counts₀ log₀ moves₀ r₀ cpu rows counts log moves r = ?
+μ-loop n prio cpu₀ mask rows₀ counts₀ log₀ moves₀ r₀ cpu rows counts log moves r = n - moves
 
--- src/settle.rt:34:5
+-- where the loop began
+first : (c : tie.Then1 Inv-loop μ-loop)
+    → Going (c .before .before .before .before .before .before .before .before .before .before .before .before .before .pre .0 .0) (c .before .before .before .before .before .before .before .before .before .before .before .before .before .args .prio .now) (c .before .before .before .before .before .before .before .before .before .before .before .before .before .args .cpu .now) (c .before .before .before .before .before .before .before .before .before .before .before .before .before .args .mask .now) (c .before .before .before .before .before .before .before .before .before .before .before .before .before .args .counts .now) (c .before .before .before .before .before .before .before .before .before .before .before .before .before .args .rows .now) (c .before .before .before .before .before .before .before .before .before .before .before .before .before .args .log .now) (c .before .before .before .before .before .before .before .before .before .before .before .before .before .args .log .now) 0 (c .before .before .before .before .before .before .before .before .before .before .before .before .before .args .«record»)
+first c = going-start (c .before .before .before .before .before .before .before .before .before .before .before .before .before .pre .0 .0) _ _ _ _ _ _ _ (c .before .before .before .before .before .before .before .before .before .before .before .before .before .pre .0 .1 .0)
+
 loop-holds : tie.Need-loop-holds Inv-loop μ-loop
-loop-holds c = ?
+loop-holds c = λ m s e. going-start m _ _ _ _ _ _ _ s
 
--- src/settle.rt:35:13
 pick-requires : tie.Need-pick-requires Inv-loop μ-loop
-pick-requires c κs = ?
+pick-requires c κs =
+    let g = (c .before .before .before .before .loop .inv (c .before .before .before .before .before .before .before .before .before .before .before .pre .0 .0) (c .before .before .before .before .before .before .before .before .before .before .before .pre .0 .1 .0) (c .before .before .before .before .before .before .before .before .before .before .before .pre .0 .1 .1)) in
+    (g .reached, (looking (c .before .before .before .before .before .before .before .before .before .before .before .pre .0 .0) (c .before .before .before .before .before .before .before .before .before .before .before .pre .0 .1 .0 .well) _ _ _ _ _ _ _ _ _ g, c .before .before .before .before .before .before .before .before .before .before .before .pre .0 .1 .1 ∙ sym (same-n (c .before .before .before .before .before .before .before .before .before .before .before .pre .0 .0) (c .before .before .before .before .before .before .before .before .before .before .before .pre .0 .1 .0 .well) _ _ _ _ _ _ _ _ _ g)))
 
--- src/settle.rt:38:13
 same-length : tie.Need-same-length Inv-loop μ-loop
-same-length c = ?
+same-length c = going-cpus (c .before .before .before .before .before .before .before .before .before .before .before .before .before .pre .0 .0) (c .before .before .before .before .before .before .before .before .before .before .before .before .before .pre .0 .1 .0 .well) _ _ _ _ _ _ _ _ _ (c .before .before .before .before .before .before .loop .inv (c .before .before .before .before .before .before .before .before .before .before .before .before .before .pre .0 .0) (c .before .before .before .before .before .before .before .before .before .before .before .before .before .pre .0 .1 .0) (c .before .before .before .before .before .before .before .before .before .before .before .before .before .pre .0 .1 .1)) ∙ sym (going-cpus (c .before .before .before .before .before .before .before .before .before .before .before .before .before .pre .0 .0) (c .before .before .before .before .before .before .before .before .before .before .before .before .before .pre .0 .1 .0 .well) _ _ _ _ _ _ _ _ _ (first c))
 
--- src/settle.rt:38:13
 same-length-2 : tie.Need-same-length-2 Inv-loop μ-loop
-same-length-2 c = ?
+same-length-2 c = going-rows (c .before .before .before .before .before .before .before .before .before .before .before .before .before .pre .0 .0) (c .before .before .before .before .before .before .before .before .before .before .before .before .before .pre .0 .1 .0 .well) _ _ _ _ _ _ _ _ _ (c .before .before .before .before .before .before .loop .inv (c .before .before .before .before .before .before .before .before .before .before .before .before .before .pre .0 .0) (c .before .before .before .before .before .before .before .before .before .before .before .before .before .pre .0 .1 .0) (c .before .before .before .before .before .before .before .before .before .before .before .before .before .pre .0 .1 .1)) ∙ sym (going-rows (c .before .before .before .before .before .before .before .before .before .before .before .before .before .pre .0 .0) (c .before .before .before .before .before .before .before .before .before .before .before .before .before .pre .0 .1 .0 .well) _ _ _ _ _ _ _ _ _ (first c))
 
--- src/settle.rt:38:13
 same-length-3 : tie.Need-same-length-3 Inv-loop μ-loop
-same-length-3 c = ?
+same-length-3 c = going-counts (c .before .before .before .before .before .before .before .before .before .before .before .before .before .pre .0 .0) (c .before .before .before .before .before .before .before .before .before .before .before .before .before .pre .0 .1 .0 .well) _ _ _ _ _ _ _ _ _ (c .before .before .before .before .before .before .loop .inv (c .before .before .before .before .before .before .before .before .before .before .before .before .before .pre .0 .0) (c .before .before .before .before .before .before .before .before .before .before .before .before .before .pre .0 .1 .0) (c .before .before .before .before .before .before .before .before .before .before .before .before .before .pre .0 .1 .1)) ∙ sym (going-counts (c .before .before .before .before .before .before .before .before .before .before .before .before .before .pre .0 .0) (c .before .before .before .before .before .before .before .before .before .before .before .before .before .pre .0 .1 .0 .well) _ _ _ _ _ _ _ _ _ (first c))
 
--- src/settle.rt:38:13
 same-length-4 : tie.Need-same-length-4 Inv-loop μ-loop
-same-length-4 c = ?
+same-length-4 c = going-log (c .before .before .before .before .before .before .before .before .before .before .before .before .before .pre .0 .0) (c .before .before .before .before .before .before .before .before .before .before .before .before .before .pre .0 .1 .0 .well) _ _ _ _ _ _ _ _ _ (c .before .before .before .before .before .before .loop .inv (c .before .before .before .before .before .before .before .before .before .before .before .before .before .pre .0 .0) (c .before .before .before .before .before .before .before .before .before .before .before .before .before .pre .0 .1 .0) (c .before .before .before .before .before .before .before .before .before .before .before .before .before .pre .0 .1 .1)) (c .before .before .before .before .before .before .before .before .before .before .before .before .before .pre .1)
 
--- src/settle.rt:38:13
 returns : tie.Need-returns Inv-loop μ-loop
-returns c = ?
+returns c =
+    λ m s e.
+    let g = c .before .before .before .before .before .before .loop .inv m s e in
+    let n : c .before .before .before .before .before .before .before .before .before .before .before .before .before .args .n ≡ g .reached .n = e ∙ sym (same-n m (s .well) _ _ _ _ _ _ _ _ _ g) in
+    going-end m (s .well) _ _ _ _ _ _ _ _ _ g (c .before .pick .result)
+    (subst (λ (i : ℕ). BestOf (g .reached) i (c .before .pick .result)) n (c .before .pick .ensures (g .reached) (looking m (s .well) _ _ _ _ _ _ _ _ _ g) n)) (c .if1 .taken)
 
--- src/settle.rt:42:59
 cast-destination : tie.Need-cast-destination Inv-loop μ-loop
-cast-destination c = ?
+cast-destination c = let t = task-small (c .before .before .before .before .before .before .before .before .before .before .before .before .before .before .before .pre .0 .0) (c .before .before .before .before .before .before .before .before .before .before .before .before .before .before .before .pre .0 .1 .0 .well) _ _ _ _ _ _ _ _ _ (c .before .before .before .before .before .before .before .before .loop .inv (c .before .before .before .before .before .before .before .before .before .before .before .before .before .before .before .pre .0 .0) (c .before .before .before .before .before .before .before .before .before .before .before .before .before .before .before .pre .0 .1 .0) (c .before .before .before .before .before .before .before .before .before .before .before .before .before .before .before .pre .0 .1 .1)) _ (foremost (c .before .before .before .before .before .before .before .before .before .before .before .before .before .before .before .pre .0 .0) (c .before .before .before .before .before .before .before .before .before .before .before .before .before .before .before .pre .0 .1 .0 .well) _ _ _ _ _ _ _ _ _ (c .before .before .before .before .before .before .before .before .loop .inv (c .before .before .before .before .before .before .before .before .before .before .before .before .before .before .before .pre .0 .0) (c .before .before .before .before .before .before .before .before .before .before .before .before .before .before .before .pre .0 .1 .0) (c .before .before .before .before .before .before .before .before .before .before .before .before .before .before .before .pre .0 .1 .1)) (c .before .before .before .before .before .before .before .before .before .before .before .before .before .before .before .args .n) (c .before .before .before .before .before .before .before .before .before .before .before .before .before .before .before .pre .0 .1 .1) (c .before .before .before .pick .result) (c .before .before .before .pick .ensures) (c .before .before .if1 .left)) in omega arith
 
--- src/settle.rt:42:54
 mul-destination : tie.Need-mul-destination Inv-loop μ-loop
-mul-destination c = ?
+mul-destination c = let t = task-small (c .before .before .before .before .before .before .before .before .before .before .before .before .before .before .before .pre .0 .0) (c .before .before .before .before .before .before .before .before .before .before .before .before .before .before .before .pre .0 .1 .0 .well) _ _ _ _ _ _ _ _ _ (c .before .before .before .before .before .before .before .before .loop .inv (c .before .before .before .before .before .before .before .before .before .before .before .before .before .before .before .pre .0 .0) (c .before .before .before .before .before .before .before .before .before .before .before .before .before .before .before .pre .0 .1 .0) (c .before .before .before .before .before .before .before .before .before .before .before .before .before .before .before .pre .0 .1 .1)) _ (foremost (c .before .before .before .before .before .before .before .before .before .before .before .before .before .before .before .pre .0 .0) (c .before .before .before .before .before .before .before .before .before .before .before .before .before .before .before .pre .0 .1 .0 .well) _ _ _ _ _ _ _ _ _ (c .before .before .before .before .before .before .before .before .loop .inv (c .before .before .before .before .before .before .before .before .before .before .before .before .before .before .before .pre .0 .0) (c .before .before .before .before .before .before .before .before .before .before .before .before .before .before .before .pre .0 .1 .0) (c .before .before .before .before .before .before .before .before .before .before .before .before .before .before .before .pre .0 .1 .1)) (c .before .before .before .before .before .before .before .before .before .before .before .before .before .before .before .args .n) (c .before .before .before .before .before .before .before .before .before .before .before .before .before .before .before .pre .0 .1 .1) (c .before .before .before .pick .result) (c .before .before .before .pick .ensures) (c .before .before .if1 .left)) in omega arith
 
--- src/settle.rt:42:54
 shared-slice-read-destination : tie.Need-shared-slice-read-destination Inv-loop μ-loop
-shared-slice-read-destination c = ?
+shared-slice-read-destination c =
+    let t = task-small (c .before .before .before .before .before .before .before .before .before .before .before .before .before .before .before .before .pre .0 .0) (c .before .before .before .before .before .before .before .before .before .before .before .before .before .before .before .before .pre .0 .1 .0 .well) _ _ _ _ _ _ _ _ _ (c .before .before .before .before .before .before .before .before .before .loop .inv (c .before .before .before .before .before .before .before .before .before .before .before .before .before .before .before .before .pre .0 .0) (c .before .before .before .before .before .before .before .before .before .before .before .before .before .before .before .before .pre .0 .1 .0) (c .before .before .before .before .before .before .before .before .before .before .before .before .before .before .before .before .pre .0 .1 .1)) _ (foremost (c .before .before .before .before .before .before .before .before .before .before .before .before .before .before .before .before .pre .0 .0) (c .before .before .before .before .before .before .before .before .before .before .before .before .before .before .before .before .pre .0 .1 .0 .well) _ _ _ _ _ _ _ _ _ (c .before .before .before .before .before .before .before .before .before .loop .inv (c .before .before .before .before .before .before .before .before .before .before .before .before .before .before .before .before .pre .0 .0) (c .before .before .before .before .before .before .before .before .before .before .before .before .before .before .before .before .pre .0 .1 .0) (c .before .before .before .before .before .before .before .before .before .before .before .before .before .before .before .before .pre .0 .1 .1)) (c .before .before .before .before .before .before .before .before .before .before .before .before .before .before .before .before .args .n) (c .before .before .before .before .before .before .before .before .before .before .before .before .before .before .before .before .pre .0 .1 .1) (c .before .before .before .before .pick .result) (c .before .before .before .before .pick .ensures) (c .before .before .before .if1 .left)) in
+    omega (arith, ap length ((c .before .before .before .before .before .before .before .before .before .loop .inv (c .before .before .before .before .before .before .before .before .before .before .before .before .before .before .before .before .pre .0 .0) (c .before .before .before .before .before .before .before .before .before .before .before .before .before .before .before .before .pre .0 .1 .0) (c .before .before .before .before .before .before .before .before .before .before .before .before .before .before .before .before .pre .0 .1 .1)) .masks), here (c .before .before .before .before .before .before .before .before .before .before .before .before .before .before .before .before .pre .0 .0) (c .before .before .before .before .before .before .before .before .before .before .before .before .before .before .before .before .pre .0 .1 .0 .well) _ _ _ _ _ _ _ _ _ (c .before .before .before .before .before .before .before .before .before .loop .inv (c .before .before .before .before .before .before .before .before .before .before .before .before .before .before .before .before .pre .0 .0) (c .before .before .before .before .before .before .before .before .before .before .before .before .before .before .before .before .pre .0 .1 .0) (c .before .before .before .before .before .before .before .before .before .before .before .before .before .before .before .before .pre .0 .1 .1)) .shape .mask)
 
--- src/settle.rt:42:13
 destination-requires : tie.Need-destination-requires Inv-loop μ-loop
-destination-requires c κs = ?
+destination-requires c κs =
+    let g = (c .before .before .before .before .before .before .before .before .before .loop .inv (c .before .before .before .before .before .before .before .before .before .before .before .before .before .before .before .before .pre .0 .0) (c .before .before .before .before .before .before .before .before .before .before .before .before .before .before .before .before .pre .0 .1 .0) (c .before .before .before .before .before .before .before .before .before .before .before .before .before .before .before .before .pre .0 .1 .1)) in
+    let f = (foremost (c .before .before .before .before .before .before .before .before .before .before .before .before .before .before .before .before .pre .0 .0) (c .before .before .before .before .before .before .before .before .before .before .before .before .before .before .before .before .pre .0 .1 .0 .well) _ _ _ _ _ _ _ _ _ (c .before .before .before .before .before .before .before .before .before .loop .inv (c .before .before .before .before .before .before .before .before .before .before .before .before .before .before .before .before .pre .0 .0) (c .before .before .before .before .before .before .before .before .before .before .before .before .before .before .before .before .pre .0 .1 .0) (c .before .before .before .before .before .before .before .before .before .before .before .before .before .before .before .before .pre .0 .1 .1)) (c .before .before .before .before .before .before .before .before .before .before .before .before .before .before .before .before .args .n) (c .before .before .before .before .before .before .before .before .before .before .before .before .before .before .before .before .pre .0 .1 .1) (c .before .before .before .before .pick .result) (c .before .before .before .before .pick .ensures) (c .before .before .before .if1 .left)) in
+    (going-high (c .before .before .before .before .before .before .before .before .before .before .before .before .before .before .before .before .pre .0 .0) (c .before .before .before .before .before .before .before .before .before .before .before .before .before .before .before .before .pre .0 .1 .0 .well) _ _ _ _ _ _ _ _ _ g _ f, going-found (c .before .before .before .before .before .before .before .before .before .before .before .before .before .before .before .before .pre .0 .0) (c .before .before .before .before .before .before .before .before .before .before .before .before .before .before .before .before .pre .0 .1 .0 .well) _ _ _ _ _ _ _ _ _ g _ f)
 
--- src/settle.rt:43:9
 note-requires : tie.Need-note-requires Inv-loop μ-loop
-note-requires c κs = ?
+note-requires c κs =
+    let g = (c .before .before .before .before .before .before .before .before .before .before .before .loop .inv (c .before .before .before .before .before .before .before .before .before .before .before .before .before .before .before .before .before .before .pre .0 .0) (c .before .before .before .before .before .before .before .before .before .before .before .before .before .before .before .before .before .before .pre .0 .1 .0) (c .before .before .before .before .before .before .before .before .before .before .before .before .before .before .before .before .before .before .pre .0 .1 .1)) in
+    let f = (foremost (c .before .before .before .before .before .before .before .before .before .before .before .before .before .before .before .before .before .before .pre .0 .0) (c .before .before .before .before .before .before .before .before .before .before .before .before .before .before .before .before .before .before .pre .0 .1 .0 .well) _ _ _ _ _ _ _ _ _ (c .before .before .before .before .before .before .before .before .before .before .before .loop .inv (c .before .before .before .before .before .before .before .before .before .before .before .before .before .before .before .before .before .before .pre .0 .0) (c .before .before .before .before .before .before .before .before .before .before .before .before .before .before .before .before .before .before .pre .0 .1 .0) (c .before .before .before .before .before .before .before .before .before .before .before .before .before .before .before .before .before .before .pre .0 .1 .1)) (c .before .before .before .before .before .before .before .before .before .before .before .before .before .before .before .before .before .before .args .n) (c .before .before .before .before .before .before .before .before .before .before .before .before .before .before .before .before .before .before .pre .0 .1 .1) (c .before .before .before .before .before .before .pick .result) (c .before .before .before .before .before .before .pick .ensures) (c .before .before .before .before .before .if1 .left)) in
+    let k = taking (c .before .before .before .before .before .before .before .before .before .before .before .before .before .before .before .before .before .before .pre .0 .0) (c .before .before .before .before .before .before .before .before .before .before .before .before .before .before .before .before .before .before .pre .0 .1 .0 .well) _ _ _ _ _ _ _ _ _ g _ f (c .before .destination .result) (c .before .destination .ensures) in
+    let l = more-few (c .before .before .before .before .before .before .before .before .before .before .before .before .before .before .before .before .before .before .pre .0 .0) (c .before .before .before .before .before .before .before .before .before .before .before .before .before .before .before .before .before .before .pre .0 .1 .0 .well) _ _ _ _ _ _ _ _ _ g _ (going-next (c .before .before .before .before .before .before .before .before .before .before .before .before .before .before .before .before .before .before .pre .0 .0) (c .before .before .before .before .before .before .before .before .before .before .before .before .before .before .before .before .before .before .pre .0 .1 .0 .well) _ _ _ _ _ _ _ _ _ g _ f (c .before .destination .result) (c .before .destination .ensures)) in
+    let n = same-n (c .before .before .before .before .before .before .before .before .before .before .before .before .before .before .before .before .before .before .pre .0 .0) (c .before .before .before .before .before .before .before .before .before .before .before .before .before .before .before .before .before .before .pre .0 .1 .0 .well) _ _ _ _ _ _ _ _ _ g in
+    let o = origin-small (g .reached) _ (here (c .before .before .before .before .before .before .before .before .before .before .before .before .before .before .before .before .before .before .pre .0 .0) (c .before .before .before .before .before .before .before .before .before .before .before .before .before .before .before .before .before .before .pre .0 .1 .0 .well) _ _ _ _ _ _ _ _ _ g) k in
+    let d = k .small in
+    let s = c .before .before .before .before .before .before .before .before .before .before .before .before .before .before .before .before .before .before .pre .0 .1 .0 .well .shape .cpus in
+    let size = going-log (c .before .before .before .before .before .before .before .before .before .before .before .before .before .before .before .before .before .before .pre .0 .0) (c .before .before .before .before .before .before .before .before .before .before .before .before .before .before .before .before .before .before .pre .0 .1 .0 .well) _ _ _ _ _ _ _ _ _ g (c .before .before .before .before .before .before .before .before .before .before .before .before .before .before .before .before .before .before .pre .1) in
+    (omega (arith, c .before .before .before .before .before .before .before .before .before .before .before .before .before .before .before .before .before .before .pre .1), (omega arith, (omega arith, omega arith)))
 
--- src/settle.rt:44:13
 migrate-requires : tie.Need-migrate-requires Inv-loop μ-loop
-migrate-requires c κs = ?
+migrate-requires c κs =
+    let g = (c .before .before .before .before .before .before .before .before .before .before .before .before .before .before .before .before .before .loop .inv (c .before .before .before .before .before .before .before .before .before .before .before .before .before .before .before .before .before .before .before .before .before .before .before .before .pre .0 .0) (c .before .before .before .before .before .before .before .before .before .before .before .before .before .before .before .before .before .before .before .before .before .before .before .before .pre .0 .1 .0) (c .before .before .before .before .before .before .before .before .before .before .before .before .before .before .before .before .before .before .before .before .before .before .before .before .pre .0 .1 .1)) in
+    let f = (foremost (c .before .before .before .before .before .before .before .before .before .before .before .before .before .before .before .before .before .before .before .before .before .before .before .before .pre .0 .0) (c .before .before .before .before .before .before .before .before .before .before .before .before .before .before .before .before .before .before .before .before .before .before .before .before .pre .0 .1 .0 .well) _ _ _ _ _ _ _ _ _ (c .before .before .before .before .before .before .before .before .before .before .before .before .before .before .before .before .before .loop .inv (c .before .before .before .before .before .before .before .before .before .before .before .before .before .before .before .before .before .before .before .before .before .before .before .before .pre .0 .0) (c .before .before .before .before .before .before .before .before .before .before .before .before .before .before .before .before .before .before .before .before .before .before .before .before .pre .0 .1 .0) (c .before .before .before .before .before .before .before .before .before .before .before .before .before .before .before .before .before .before .before .before .before .before .before .before .pre .0 .1 .1)) (c .before .before .before .before .before .before .before .before .before .before .before .before .before .before .before .before .before .before .before .before .before .before .before .before .args .n) (c .before .before .before .before .before .before .before .before .before .before .before .before .before .before .before .before .before .before .before .before .before .before .before .before .pre .0 .1 .1) (c .before .before .before .before .before .before .before .before .before .before .before .before .pick .result) (c .before .before .before .before .before .before .before .before .before .before .before .before .pick .ensures) (c .before .before .before .before .before .before .before .before .before .before .before .if1 .left)) in (
+      (
+        g .reached,
+        record { well = here (c .before .before .before .before .before .before .before .before .before .before .before .before .before .before .before .before .before .before .before .before .before .before .before .before .pre .0 .0) (c .before .before .before .before .before .before .before .before .before .before .before .before .before .before .before .before .before .before .before .before .before .before .before .before .pre .0 .1 .0 .well) _ _ _ _ _ _ _ _ _ g; held = g .held; applies = going-next (c .before .before .before .before .before .before .before .before .before .before .before .before .before .before .before .before .before .before .before .before .before .before .before .before .pre .0 .0) (c .before .before .before .before .before .before .before .before .before .before .before .before .before .before .before .before .before .before .before .before .before .before .before .before .pre .0 .1 .0 .well) _ _ _ _ _ _ _ _ _ g _ f (c .before .before .before .before .before .before .before .destination .result) (c .before .before .before .before .before .before .before .destination .ensures) },
+      ),
+      going-cpus (c .before .before .before .before .before .before .before .before .before .before .before .before .before .before .before .before .before .before .before .before .before .before .before .before .pre .0 .0) (c .before .before .before .before .before .before .before .before .before .before .before .before .before .before .before .before .before .before .before .before .before .before .before .before .pre .0 .1 .0 .well) _ _ _ _ _ _ _ _ _ g,
+    )
 
--- src/settle.rt:45:9
 add-moves : tie.Need-add-moves Inv-loop μ-loop
-add-moves c = ?
+add-moves c = let l = few (c .before .before .before .before .before .before .before .before .before .before .before .before .before .before .before .before .before .before .before .before .before .before .before .before .before .before .before .before .before .before .before .pre .0 .0) (c .before .before .before .before .before .before .before .before .before .before .before .before .before .before .before .before .before .before .before .before .before .before .before .before .before .before .before .before .before .before .before .pre .0 .1 .0 .well) _ _ _ _ _ _ _ _ _ (c .before .before .before .before .before .before .before .before .before .before .before .before .before .before .before .before .before .before .before .before .before .before .before .before .loop .inv (c .before .before .before .before .before .before .before .before .before .before .before .before .before .before .before .before .before .before .before .before .before .before .before .before .before .before .before .before .before .before .before .pre .0 .0) (c .before .before .before .before .before .before .before .before .before .before .before .before .before .before .before .before .before .before .before .before .before .before .before .before .before .before .before .before .before .before .before .pre .0 .1 .0) (c .before .before .before .before .before .before .before .before .before .before .before .before .before .before .before .before .before .before .before .before .before .before .before .before .before .before .before .before .before .before .before .pre .0 .1 .1)) in let s = c .before .before .before .before .before .before .before .before .before .before .before .before .before .before .before .before .before .before .before .before .before .before .before .before .before .before .before .before .before .before .before .pre .0 .1 .0 .well .shape .cpus in omega arith
 
--- src/settle.rt:34:5
 loop-less : tie.Need-loop-less Inv-loop μ-loop
-loop-less c = ?
+loop-less c = let l = few (c .before .before .before .before .before .before .before .before .before .before .before .before .before .before .before .before .before .before .before .before .before .before .before .before .before .before .before .before .before .before .before .pre .0 .0) (c .before .before .before .before .before .before .before .before .before .before .before .before .before .before .before .before .before .before .before .before .before .before .before .before .before .before .before .before .before .before .before .pre .0 .1 .0 .well) _ _ _ _ _ _ _ _ _ (c .before .before .before .before .before .before .before .before .before .before .before .before .before .before .before .before .before .before .before .before .before .before .before .before .loop .inv (c .before .before .before .before .before .before .before .before .before .before .before .before .before .before .before .before .before .before .before .before .before .before .before .before .before .before .before .before .before .before .before .pre .0 .0) (c .before .before .before .before .before .before .before .before .before .before .before .before .before .before .before .before .before .before .before .before .before .before .before .before .before .before .before .before .before .before .before .pre .0 .1 .0) (c .before .before .before .before .before .before .before .before .before .before .before .before .before .before .before .before .before .before .before .before .before .before .before .before .before .before .before .before .before .before .before .pre .0 .1 .1)) in let e = c .before .before .before .before .before .before .before .before .before .before .before .before .before .before .before .before .before .before .before .before .before .before .before .before .before .before .before .before .before .before .before .pre .0 .1 .1 in omega arith
 
--- src/settle.rt:34:5
 loop-again : tie.Need-loop-again Inv-loop μ-loop
-loop-again c = ?
+loop-again c =
+    λ m s e.
+    let g = c .before .before .before .before .before .before .before .before .before .before .before .before .before .before .before .before .before .before .before .before .before .before .before .before .loop .inv m s e in
+    let f = foremost m (s .well) _ _ _ _ _ _ _ _ _ g (c .before .before .before .before .before .before .before .before .before .before .before .before .before .before .before .before .before .before .before .before .before .before .before .before .before .before .before .before .before .before .before .args .n) e (c .before .before .before .before .before .before .before .before .before .before .before .before .before .before .before .before .before .before .before .pick .result) (c .before .before .before .before .before .before .before .before .before .before .before .before .before .before .before .before .before .before .before .pick .ensures) (c .before .before .before .before .before .before .before .before .before .before .before .before .before .before .before .before .before .before .if1 .left) in
+    let n = going-next m (s .well) _ _ _ _ _ _ _ _ _ g _ f (c .before .before .before .before .before .before .before .before .before .before .before .before .before .before .destination .result) (c .before .before .before .before .before .before .before .before .before .before .before .before .before .before .destination .ensures) in
+    let l = more-few m (s .well) _ _ _ _ _ _ _ _ _ g _ n in
+    let z = s .well .shape .cpus in
+    going-on m (s .well) _ _ _ _ _ _ _ _ _ g _ _ _ n (omega (arith, c .before .before .before .before .before .before .before .before .before .before .before .before .before .before .before .before .before .before .before .before .before .before .before .before .before .before .before .before .before .before .before .pre .1)) _ _ _ _ _
+    (c .before .before .before .before .before .before .migrate .ensures .0 (g .reached) (record { well = here m (s .well) _ _ _ _ _ _ _ _ _ g; held = g .held; applies = n }))
+    (c .before .before .before .before .before .before .migrate .ensures .1) (c .before .before .before .before .before .before .before .before .before .before .before .before .note .ensures)
 
 pub settle-spec : {M : Type 1} → statement M
 settle-spec =
