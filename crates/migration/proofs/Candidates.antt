@@ -22,11 +22,11 @@ use Rattle.rules.specs.Migration.{movable}
 use Rattle.rules.specs.WellFormed.{WellFormed, Fit}
 use Rattle.rules.proofs.Apart.{in-row, once, runnable-fit}
 use Rattle.rules.proofs.Finder.{movable-found, found-movable}
-use Rattle.rules.proofs.Lists.{in-here, in-there, in-getD, occ-cons, digit-same, not-in-nil}
-use Rattle.rules.proofs.Order.{place-lt, place-there}
+use Rattle.rules.proofs.Lists.{in-here, in-there, in-getD, occ-cons, digit-same, not-in-nil, falling-at}
+use Rattle.rules.proofs.Order.{place-lt, place-there, place-is}
 use Rattle.runqueue.specs.Row.{ahead, HoldsRow}
 use Rattle.runqueue.specs.Table.{HoldsRows, rowAt}
-use Rattle.runqueue.proofs.Places.{place-is, place-le, ahead-before, ahead-here, ahead-le, falling-at}
+use Rattle.runqueue.proofs.Places.{place-le, ahead-before, ahead-here, ahead-le}
 use Rattle.runqueue.proofs.Queued.{row-size}
 use Rattle.runqueue.proofs.Flat.{count-is, part-held, part-taken}
 use Rattle.placement.specs.Held.{Held}

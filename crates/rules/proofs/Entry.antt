@@ -27,7 +27,7 @@ use Rattle.rules.proofs.Apart.{in-row, runnable-place}
 use Rattle.rules.proofs.Checks.{Accepted, accepted-checks, effect-is, outcome-accepted, outcome-moves, passes, passed}
 use Rattle.rules.proofs.Effects.{fresh-well-formed}
 use Rattle.rules.proofs.Runs.{settle-run, run-n}
-use Rattle.rules.proofs.Demand3.{demand3}
+use Rattle.rules.proofs.Demand3.{demand3, keep-outcome}
 use Rattle.rules.proofs.Room.{row-fits}
 use Rattle.rules.proofs.Test.{size-good, good-size, shape-shaped, test-well-formed, well-formed-test}
 use Rattle.rules.proofs.Tables.{length-rowsOf, Fitting, length-flat, read-written, written-stored, test-stored, stored-test}
@@ -277,7 +277,10 @@ module _ (n : ℕ) (r : Record) (s : Tables) (e : Event) (h : eventAnswer n r s 
   takes : refusal before e ≡ 0
   takes = answer-zero n r s e h .1
 
-  after-demand : Demand3 (effect e before) (done .log) (done .machine)
+  after-well-formed : WellFormed (done .machine)
+  after-well-formed = keep-outcome before e (good-before .machine)
+
+  after-demand : Demand3 (effect e before) (done .moves) (done .log) (done .machine)
   after-demand = demand3 before e (good-before .machine) takes
 
   same-n : done .machine .n ≡ n
@@ -292,7 +295,8 @@ module _ (n : ℕ) (r : Record) (s : Tables) (e : Event) (h : eventAnswer n r s 
   log-fits : length (logged (done .log) (s .log)) ≡ logPlaces
   log-fits =
       let start : effect e before .n ≡ n = start-n in
-      let few : length (done .log) ≤ effect e before .n - 1 = after-demand .few in
+      let few : done .moves ≤ effect e before .n - 1 = after-demand .few in
+      let count : done .moves ≡ length (done .log) = after-demand .counted .0 in
       let small : n ≤ cpuPlaces = good-before .machine .shape .cpus in
       let long : length (s .log) ≡ logPlaces = good-before .log in
       length-logged (done .log) (s .log) (omega arith) ∙ long
@@ -300,7 +304,7 @@ module _ (n : ℕ) (r : Record) (s : Tables) (e : Event) (h : eventAnswer n r s 
   written-after : Good n (recordOf (levels (done .machine))) (tablesOf (done .machine) (logged (done .log) (s .log)))
   written-after =
       subst (λ (k : ℕ). Good k (recordOf (levels (done .machine))) (tablesOf (done .machine) (logged (done .log) (s .log)))) same-n
-      (written-good (done .machine) (after-demand .well-formed) (logged (done .log) (s .log)) log-fits)
+      (written-good (done .machine) after-well-formed (logged (done .log) (s .log)) log-fits)
 
   pub handled-moves : handled n r s e .moves ≡ length (done .log)
   handled-moves = ap (λ (q : Result). q .moves) handled-accepted ∙ outcome-moves before e
@@ -317,8 +321,8 @@ module _ (n : ℕ) (r : Record) (s : Tables) (e : Event) (h : eventAnswer n r s 
   handled-machine =
       ap (λ (q : Result). machineOf n (q .tables)) handled-accepted
       ∙ subst (λ (k : ℕ). machineOf k (tablesOf (done .machine) (logged (done .log) (s .log))) ≡ done .machine) same-n
-      (written-machine (done .machine) (after-demand .well-formed) (logged (done .log) (s .log)))
+      (written-machine (done .machine) after-well-formed (logged (done .log) (s .log)))
 
   -- demand 3, of what they hold
-  pub handled-demand3 : Demand3 (effect e before) (done .log) (machineOf n (handled n r s e .tables))
-  handled-demand3 = subst (Demand3 (effect e before) (done .log)) (sym handled-machine) after-demand
+  pub handled-demand3 : Demand3 (effect e before) (done .moves) (done .log) (machineOf n (handled n r s e .tables))
+  handled-demand3 = subst (Demand3 (effect e before) (done .moves) (done .log)) (sym handled-machine) after-demand

@@ -1,30 +1,34 @@
 -- Demand 3 of what the caller holds after an accepted event.
 -- Assumes nothing.
 use mathlib.Core.Path.{_≡_, refl, sym, ap, _∙_, subst}
-use mathlib.Core.Bool.{true}
+use mathlib.Core.Bool.{Bool, true, false}
 use mathlib.Core.Logic.{_≢_}
 use mathlib.Core.List.{List, [], _∷_, tail}
 use mathlib.Core.Option.{some}
 use Prim.Native.Nat.{ℕ, zero, suc, _+_, _-_, _*_, _≤_, _<_}
 use native.Mathlib.Nat.{not-suc-le-zero, le-of-suc-le-suc}
 use native.Mathlib.Omega.{arith}
+use lib.Dec.{ltb}
+use borrow.Author.Tests.{ltb-true, ltb-false}
 use lib.ListN.{length, getD, drop, length-map, List·getD-map}
 use lib.Seq.{getD-take, getD-drop}
 use Rattle.bits.specs.Bit.{bit}
 use Rattle.cpupri.specs.declared.record.Record.{Record}
-use Rattle.rules.specs.Lists.{occ, In, Falling}
-use Rattle.rules.specs.Machine.{Machine, prioOf, row, head, running, taskPlaces}
+use Rattle.rules.specs.Lists.{occ, In, place}
+use Rattle.rules.specs.Machine.{Machine, taskOf, prioOf, row, head, running, taskPlaces, runnable}
 use Rattle.rules.specs.Events.{Event, effect}
 use Rattle.rules.specs.Migration.{Move, waiting}
 use Rattle.rules.specs.Outcome.{outcome, logged, entryWidth}
 use Rattle.rules.specs.Demand3.{Demand3, Outdone, movers, receivers}
 use Rattle.rules.specs.Tables.{Tables, machineOf, rowsOf}
 use Rattle.rules.specs.Entry.{Result, eventAnswer, handled}
-use Rattle.rules.specs.LentDemand3.{LentDemand3, moverAt, receiverAt, taskAt, Busy}
-use Rattle.rules.proofs.Lists.{in-getD, in-tails, occ-cons, digit-same}
+use Rattle.rules.specs.LentDemand3.{LentDemand3, Entries, moverAt, receiverAt, taskAt, Busy}
+use Rattle.rules.proofs.Lists.{in-getD, in-tails, occ-cons, digit-same, falling-at}
+use Rattle.rules.proofs.Order.{place-is, place-lt}
+use Rattle.rules.proofs.Apart.{in-row, row-in, once, runnable-fit}
 use Rattle.rules.proofs.Tables.{row-at, write-read, stored-test}
 use Rattle.rules.proofs.Log.{logged-entry, noMove}
-use Rattle.rules.proofs.Entry.{Good, good-checked, handled-good, handled-demand3, handled-moves, handled-log, start-n}
+use Rattle.rules.proofs.Entry.{Good, handled-good, handled-demand3, handled-moves, handled-log, start-n}
 
 -- ---- lists by their places
 
@@ -42,12 +46,19 @@ at-two (x ∷ xs) (suc i) (suc j) h l e =
 once-each : (xs : List ℕ) → ((x : ℕ) → occ x xs ≤ 1) → (i j : ℕ) → i < j → j < length xs → getD xs i 0 ≢ getD xs j 0
 once-each xs h i j l k e = let two : 2 ≤ occ (getD xs i 0) xs = at-two xs i j l k e in omega (arith, h (getD xs i 0))
 
-falling-at : (p : ℕ → ℕ) (xs : List ℕ) → Falling p xs → (i j : ℕ) → i ≤ j → j < length xs → p (getD xs j 0) ≤ p (getD xs i 0)
-falling-at p [] f i j h l = absurd (not-suc-le-zero l)
-falling-at p (x ∷ xs) f zero zero h l = omega arith
-falling-at p (x ∷ xs) f zero (suc j) h l = f .0 (getD xs j 0) (in-getD xs j (le-of-suc-le-suc l))
-falling-at p (x ∷ xs) f (suc i) zero h l = absurd (not-suc-le-zero h)
-falling-at p (x ∷ xs) f (suc i) (suc j) h l = falling-at p xs (f .1) i j (le-of-suc-le-suc h) (le-of-suc-le-suc l)
+-- what occurs once stands at one place
+only : (xs : List ℕ) (x i j : ℕ) → occ x xs ≤ 1 → i < length xs → j < length xs → getD xs i 0 ≡ x → getD xs j 0 ≡ x → i ≡ j
+only xs x i j h li lj ei ej = go (ltb i j) refl (ltb j i) refl
+  where
+    twice : (a b : ℕ) → a < b → b < length xs → getD xs a 0 ≡ x → getD xs b 0 ≡ x → ⊥
+    twice a b l k ea eb =
+        let two : 2 ≤ occ (getD xs a 0) xs = at-two xs a b l k (ea ∙ sym eb) in
+        let same : occ (getD xs a 0) xs ≡ occ x xs = ap (λ (y : ℕ). occ y xs) ea in
+        omega arith
+    go : (p : Bool) → ltb i j ≡ p → (q : Bool) → ltb j i ≡ q → i ≡ j
+    go true e q f = absurd (twice i j (ltb-true i j e) lj ei ej)
+    go false e true f = absurd (twice j i (ltb-true j i f) li ej ei)
+    go false e false f = let a : j ≤ i = ltb-false i j e in let b : i ≤ j = ltb-false j i f in omega arith
 
 head-at : (xs : List ℕ) (t : ℕ) → head xs ≡ some t → (0 < length xs) × (getD xs 0 0 ≡ t)
 head-at [] t e = absurd (let z : _≡_ {A = ℕ} 0 1 = cc in omega arith)
@@ -95,18 +106,43 @@ module _ (n : ℕ) (r : Record) (s : Tables) (g : Good n r s) where
       (in-tails (getD (row (machineOf n s) c) p 0) c (rowsOf (s .counts) (s .rows))
       (tail-at (row (machineOf n s) c) p l (omega (arith, row-length c))))
 
+  -- a runnable task, by the tables: it stands at one place, and at no other
+  stands-at : (t : ℕ) → getD (s .state) t 0 ≡ runnable
+      → (c : ℕ) × (p : ℕ) × (c < n) × (p < getD (s .counts) c 0) × (taskAt s c p ≡ t)
+      × ((d q : ℕ) → d < n → q < getD (s .counts) d 0 → taskAt s d q ≡ t → (d ≡ c) × (q ≡ p))
+  stands-at t h =
+      let m = machineOf n s in
+      let w = g .machine in
+      let c = taskOf m t .cpu in
+      let i : In t (row m c) = row-in m t w h in
+      let inside : place t (row m c) < length (row m c) = place-lt t (row m c) i in
+      let small : c < n = runnable-fit m t w h .cpu in
+      let stored : place t (row m c) < getD (s .counts) c 0 = omega (arith, row-length c) in
+      (
+        c,
+        place t (row m c),
+        small,
+        stored,
+        sym (row-place c (place t (row m c)) small stored) ∙ place-is t (row m c) i,
+        λ d q l k e.
+        let here : getD (row m d) q 0 ≡ t = row-place d q l k ∙ e in
+        let long : q < length (row m d) = omega (arith, row-length d) in
+        let home : d ≡ taskOf m t .cpu = sym (in-row m t d w (subst (λ (u : ℕ). In u (row m d)) here (in-getD (row m d) q long)) .1) in
+        let at-home : getD (row m c) q 0 ≡ t = subst (λ (x : ℕ). getD (row m x) q 0 ≡ t) home here in
+        let long-home : q < length (row m c) = subst (λ (x : ℕ). q < length (row m x)) home long in
+        (home, only (row m c) t q (place t (row m c)) (once m t c w) long-home inside at-home (place-is t (row m c) i)),
+      )
+
 -- ---- the log by its numbers
 
 module _ (vs : List Move) (old : List ℕ) (s : Tables) (log : s .log ≡ logged vs old) where
-  mover-is : (i : ℕ) → i < length vs → moverAt s i ≡ getD (movers vs) i 0
-  mover-is i h =
-      ap (λ (l : List ℕ). getD l (entryWidth * i) 0) log ∙ logged-entry vs old i h .0
-      ∙ sym (List·getD-map (λ (v : Move). v .task) vs i noMove)
-
-  receiver-is : (i : ℕ) → i < length vs → receiverAt s i ≡ getD (receivers vs) i 0
-  receiver-is i h =
-      ap (λ (l : List ℕ). getD l (entryWidth * i + 2) 0) log ∙ logged-entry vs old i h .2
-      ∙ sym (List·getD-map (λ (v : Move). v .target) vs i noMove)
+  entries-are : Entries s vs
+  entries-are =
+      record {
+        mover = λ i h. ap (λ (l : List ℕ). getD l (entryWidth * i) 0) log ∙ logged-entry vs old i h .0 ∙ sym (List·getD-map (λ (v : Move). v .task) vs i noMove);
+        origin = λ i h. ap (λ (l : List ℕ). getD l (entryWidth * i + 1) 0) log ∙ logged-entry vs old i h .1 ∙ sym (List·getD-map (λ (v : Move). v .origin) vs i noMove);
+        receiver = λ i h. ap (λ (l : List ℕ). getD l (entryWidth * i + 2) 0) log ∙ logged-entry vs old i h .2 ∙ sym (List·getD-map (λ (v : Move). v .target) vs i noMove);
+      }
 
 -- ---- demand 3
 
@@ -120,10 +156,10 @@ module _ (n : ℕ) (r : Record) (s : Tables) (e : Event) (h : eventAnswer n r s 
   abbrev start : Machine
   start = effect e (machineOf n s)
 
-  pub handled-lent : LentDemand3 n (result .moves) (start .prio) (result .cpupri) (result .tables)
+  pub handled-lent : LentDemand3 n (result .moves) start (result .tables)
   handled-lent =
       record {
-        few = subst (λ (k : ℕ). result .moves ≤ k - 1) (start-n n r s e h) (subst (λ (k : ℕ). k ≤ start .n - 1) (sym count) (demand .few));
+        few = subst (λ (k : ℕ). result .moves ≤ k - 1) (start-n n r s e h) (subst (λ (k : ℕ). k ≤ start .n - 1) (demand .counted .0 ∙ sym count) (demand .few));
         no-task-twice = λ i j l k q.
             once-each (movers log) (demand .no-task-twice) i j l (movers-long j k) (sym (mover i (omega arith)) ∙ q ∙ mover j k);
         no-cpu-twice = λ i j l k q.
@@ -133,11 +169,9 @@ module _ (n : ℕ) (r : Record) (s : Tables) (e : Event) (h : eventAnswer n r s 
             falling-at (prioOf start) (movers log) (demand .falling) i j l (movers-long j k) in
             subst (λ (t : ℕ). getD (start .prio) (moverAt (result .tables) j) 0 ≤ getD (start .prio) t 0) (sym (mover i (omega arith)))
             (subst (λ (t : ℕ). getD (start .prio) t 0 ≤ getD (start .prio) (getD (movers log) i 0) 0) (sym (mover j k)) low);
-        movers-run = λ i k.
-            runs-at n (result .cpupri) (result .tables) good (receiverAt (result .tables) i) (moverAt (result .tables) i)
-            (ap (running end) (receiver i k) ∙ demand .movers-run i (subst (λ (m : ℕ). i < m) count k) ∙ ap (λ (t : ℕ). some t) (sym (mover i k)));
+        counted = (log, demand .counted .1, count, entries-are log (s .log) (result .tables) (handled-log n r s e h));
         settled = λ c p d l z k m a. settled c p d l z k m a;
-        well-formed = good-checked n (result .cpupri) (result .tables) good;
+        stands = stands-at n (result .cpupri) (result .tables) good;
       }
     where
       end : Machine
@@ -146,17 +180,17 @@ module _ (n : ℕ) (r : Record) (s : Tables) (e : Event) (h : eventAnswer n r s 
       good : Good n (result .cpupri) (result .tables)
       good = handled-good n r s e h
 
-      demand : Demand3 start log (machineOf n (result .tables))
+      demand : Demand3 start (outcome (machineOf n s) e .moves) log (machineOf n (result .tables))
       demand = handled-demand3 n r s e h
 
       count : result .moves ≡ length log
       count = handled-moves n r s e h
 
       mover : (i : ℕ) → i < result .moves → moverAt (result .tables) i ≡ getD (movers log) i 0
-      mover i k = mover-is log (s .log) (result .tables) (handled-log n r s e h) i (subst (λ (m : ℕ). i < m) count k)
+      mover i k = entries-are log (s .log) (result .tables) (handled-log n r s e h) .mover i (subst (λ (m : ℕ). i < m) count k)
 
       receiver : (i : ℕ) → i < result .moves → receiverAt (result .tables) i ≡ getD (receivers log) i 0
-      receiver i k = receiver-is log (s .log) (result .tables) (handled-log n r s e h) i (subst (λ (m : ℕ). i < m) count k)
+      receiver i k = entries-are log (s .log) (result .tables) (handled-log n r s e h) .receiver i (subst (λ (m : ℕ). i < m) count k)
 
       movers-long : (j : ℕ) → j < result .moves → j < length (movers log)
       movers-long j k = subst (λ (m : ℕ). j < m) (count ∙ sym (length-map log (λ (v : Move). v .task))) k

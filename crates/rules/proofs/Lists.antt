@@ -273,3 +273,11 @@ falling-cong p q (y ∷ ys) e f = (
   λ u i. let here : p y ≡ q y = e y (in-here y ys) in let there : p u ≡ q u = e u (in-there u y ys i) in omega (arith, f .0 u i),
   falling-cong p q ys (λ u i. e u (in-there u y ys i)) (f .1),
 )
+
+-- place by place
+pub falling-at : (p : ℕ → ℕ) (xs : List ℕ) → Falling p xs → (i j : ℕ) → i ≤ j → j < length xs → p (getD xs j 0) ≤ p (getD xs i 0)
+falling-at p [] f i j h l = absurd (not-suc-le-zero l)
+falling-at p (x ∷ xs) f zero zero h l = omega arith
+falling-at p (x ∷ xs) f zero (suc j) h l = f .0 (getD xs j 0) (in-getD xs j (le-of-suc-le-suc l))
+falling-at p (x ∷ xs) f (suc i) zero h l = absurd (not-suc-le-zero h)
+falling-at p (x ∷ xs) f (suc i) (suc j) h l = falling-at p xs (f .1) i j (le-of-suc-le-suc h) (le-of-suc-le-suc l)

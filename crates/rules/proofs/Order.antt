@@ -6,8 +6,9 @@ use mathlib.Core.Logic.{_≢_, _⊎_, inl, inr}
 use mathlib.Core.List.{List, [], _∷_, _++_, map, tail}
 use Prim.Native.Nat.{ℕ, zero, suc, _+_, _≤_, _<_, zero-le, suc-le-suc}
 use native.Mathlib.Omega.{arith}
+use lib.Dec.{eqb}
 use lib.ListN.{length, getD}
-use borrow.Author.Tests.{eq-eqb, ne-eqb}
+use borrow.Author.Tests.{eq-eqb, ne-eqb, eqb-true, eqb-false}
 use Rattle.rules.specs.Lists.{In, place, from, select, joined}
 use Rattle.rules.proofs.Lists.{same?, in-here, in-there, in-cons, not-in-nil, from-in}
 
@@ -131,3 +132,24 @@ place-tails x y (suc i) (suc j) (r ∷ rs) a b ux uy h =
     let ih =
     place-tails x y i j rs a b (λ k q. let z : suc k ≡ suc i = ux (suc k) q in omega arith) (λ k q. let z : suc k ≡ suc j = uy (suc k) q in omega arith) (omega arith) in
     (suc-le-suc (ih .0), λ e. ih .1 (omega arith))
+
+-- x is the first of the list, or stands behind it
+head-or-behind : (x y : ℕ) (ys : List ℕ) → In x (y ∷ ys) → (x ≡ y) ⊎ ((x ≢ y) × In x ys)
+head-or-behind x y ys i = go (eqb x y) refl
+  where
+    behind : x ≢ y → (x ≡ y) ⊎ In x ys → In x ys
+    behind d (inl e) = absurd (d e)
+    behind d (inr j) = j
+
+    go : (b : Bool) → eqb x y ≡ b → (x ≡ y) ⊎ ((x ≢ y) × In x ys)
+    go true e = inl (eqb-true x y e)
+    go false e = let d : x ≢ y = eqb-false x y e in inr (d, behind d (in-cons x y ys i))
+
+-- a task that stands in a list stands at its place
+pub place-is : (x : ℕ) (xs : List ℕ) → In x xs → getD xs (place x xs) 0 ≡ x
+place-is x [] i = absurd (not-in-nil x i)
+place-is x (y ∷ ys) i = go (head-or-behind x y ys i) (place-is x ys)
+  where
+    go : (x ≡ y) ⊎ ((x ≢ y) × In x ys) → (In x ys → getD ys (place x ys) 0 ≡ x) → getD (y ∷ ys) (place x (y ∷ ys)) 0 ≡ x
+    go (inl e) rest = ap (λ (k : ℕ). getD (y ∷ ys) k 0) (place-here x y ys e) ∙ sym e
+    go (inr (d)) rest = ap (λ (k : ℕ). getD (y ∷ ys) k 0) (place-there x y ys (d .0)) ∙ rest (d .1)

@@ -2,17 +2,20 @@
 -- Assumes nothing.
 use mathlib.Core.Path.{_≡_}
 use mathlib.Core.Bool.{true}
-use mathlib.Core.List.{List, map}
-use mathlib.Core.Option.{some}
+use mathlib.Core.List.{List, [], _∷_, map}
+use mathlib.Core.Logic.{_≢_}
+use mathlib.Core.Option.{some, none}
 use Prim.Native.Nat.{ℕ, _-_, _≤_, _<_}
-use lib.ListN.{length, getD}
+use lib.ListN.{length}
 use Rattle.rules.specs.Lists.{occ, In, Falling}
-use Rattle.rules.specs.Machine.{Machine, prioOf, running, allowed}
-use Rattle.rules.specs.WellFormed.{WellFormed}
-use Rattle.rules.specs.Migration.{Move, waiting}
+use Rattle.rules.specs.Machine.{Machine, taskOf, prioOf, row, running, allowed, runnable}
+use Rattle.rules.specs.Migration.{Move, waiting, next, migrate}
 
 abbrev pub movers : List Move → List ℕ
 movers log = map (λ (v : Move). v .task) log
+
+abbrev pub origins : List Move → List ℕ
+origins log = map (λ (v : Move). v .origin) log
 
 -- a CPU receives a task when it is a step's destination
 abbrev pub receivers : List Move → List ℕ
@@ -22,19 +25,25 @@ receivers log = map (λ (v : Move). v .target) log
 abbrev pub Outdone : Machine → ℕ → ℕ → Type 0
 Outdone m t c = (u : ℕ) × (running m c ≡ some u) × (prioOf m t ≤ prioOf m u)
 
--- `start` is the machine as the event's own effect leaves it, `log` the steps, `end` the machine with which the event ends
-pub record Demand3 (start : Machine) (log : List Move) (end : Machine) : Type 0 where
+-- the moves are steps, one after the other, that lead from the first machine to the last, in which no task is movable
+pub data Steps : Machine → List Move → Machine → Type 0 where
+  none-left : {m : Machine} → next m ≡ none → Steps m [] m
+  step : {m : Machine} {v : Move} {log : List Move} {end : Machine} → next m ≡ some v → Steps (migrate v m) log end → Steps m (v ∷ log) end
+
+-- `start` is the machine as the event's own effect leaves it, `count` the number reported, `log` the log's entries up to it, and `end` the
+-- machine with which the event ends
+pub record Demand3 (start : Machine) (count : ℕ) (log : List Move) (end : Machine) : Type 0 where
   -- at most N - 1 migrations
-  pub few : length log ≤ start .n - 1
-  -- no task migrates twice
-  pub no-task-twice : (t : ℕ) → occ t (movers log) ≤ 1
-  -- no CPU receives two tasks
+  pub few : count ≤ start .n - 1
+  -- no CPU receives two
   pub no-cpu-twice : (c : ℕ) → occ c (receivers log) ≤ 1
-  -- along the log the movers' priorities never rise
+  -- no task moves twice
+  pub no-task-twice : (t : ℕ) → occ t (movers log) ≤ 1
+  -- the movers' priorities never rise
   pub falling : Falling (prioOf start) (movers log)
-  -- afterwards each mover runs, on its destination
-  pub movers-run : (i : ℕ) → i < length log → running end (getD (receivers log) i 0) ≡ some (getD (movers log) i 0)
-  -- afterwards no waiting task is higher than what runs on any CPU it is allowed
+  -- the count is the number of log entries, and they are the steps, in order
+  pub counted : (count ≡ length log) × Steps start log end
+  -- afterwards no waiting task outranks what runs on any CPU it is allowed
   pub settled : (t c : ℕ) → In t (waiting end) → c < end .n → allowed end t c ≡ true → Outdone end t c
-  -- afterwards the machine is well-formed
-  pub well-formed : WellFormed end
+  -- every runnable task stands in exactly one row, once
+  pub stands : (t : ℕ) → taskOf end t .state ≡ runnable → (c : ℕ) × (c < end .n) × (occ t (row end c) ≡ 1) × ((d : ℕ) → d ≢ c → occ t (row end d) ≡ 0)

@@ -1,21 +1,24 @@
--- Demand 3 once more, of what the caller holds after an accepted event: over the numbers of the log, the tables and the record.
+-- Demand 3 once more, of what the caller holds after an accepted event: over the numbers of the log and the tables.
 -- Assumes nothing.
 use mathlib.Core.Path.{_≡_}
 use mathlib.Core.Bool.{true}
 use mathlib.Core.List.{List}
 use mathlib.Core.Logic.{_≢_}
 use Prim.Native.Nat.{ℕ, _+_, _-_, _*_, _≤_, _<_}
-use lib.ListN.{getD}
+use lib.ListN.{length, getD}
 use Rattle.bits.specs.Bit.{bit}
-use Rattle.cpupri.specs.declared.record.Record.{Record}
-use Rattle.rules.specs.Machine.{taskPlaces}
+use Rattle.rules.specs.Machine.{Machine, prioOf, taskPlaces, runnable}
 use Rattle.rules.specs.Outcome.{entryWidth}
-use Rattle.rules.specs.Tables.{Tables}
-use Rattle.rules.specs.Entry.{checked}
+use Rattle.rules.specs.Migration.{Move}
+use Rattle.rules.specs.Demand3.{Steps, movers, origins, receivers}
+use Rattle.rules.specs.Tables.{Tables, machineOf}
 
--- entry i of the log: its mover and its destination
+-- entry i of the log: its mover, the CPU it waited on, its destination
 abbrev pub moverAt : Tables → ℕ → ℕ
 moverAt s i = getD (s .log) (entryWidth * i) 0
+
+abbrev pub originAt : Tables → ℕ → ℕ
+originAt s i = getD (s .log) (entryWidth * i + 1) 0
 
 abbrev pub receiverAt : Tables → ℕ → ℕ
 receiverAt s i = getD (s .log) (entryWidth * i + 2) 0
@@ -28,20 +31,28 @@ taskAt s c p = getD (s .rows) (taskPlaces * c + p) 0
 abbrev pub Busy : Tables → ℕ → Type 0
 Busy s c = 0 < getD (s .counts) c 0
 
--- `prio` is the priority column after the event's own effect
-pub record LentDemand3 (n moves : ℕ) (prio : List ℕ) (r : Record) (s : Tables) : Type 0 where
+-- the steps vs are the log's first entries
+pub record Entries (s : Tables) (vs : List Move) : Type 0 where
+  pub mover : (i : ℕ) → i < length vs → moverAt s i ≡ getD (movers vs) i 0
+  pub origin : (i : ℕ) → i < length vs → originAt s i ≡ getD (origins vs) i 0
+  pub receiver : (i : ℕ) → i < length vs → receiverAt s i ≡ getD (receivers vs) i 0
+
+-- `start` is the machine as the event's own effect leaves it, `moves` the number reported, and s the tables with which the event ends
+pub record LentDemand3 (n moves : ℕ) (start : Machine) (s : Tables) : Type 0 where
   -- at most N - 1 migrations
   pub few : moves ≤ n - 1
-  -- no task migrates twice
-  pub no-task-twice : (i j : ℕ) → i < j → j < moves → moverAt s i ≢ moverAt s j
-  -- no CPU receives two tasks
+  -- no CPU receives two
   pub no-cpu-twice : (i j : ℕ) → i < j → j < moves → receiverAt s i ≢ receiverAt s j
-  -- along the log the movers' priorities never rise
-  pub falling : (i j : ℕ) → i ≤ j → j < moves → getD prio (moverAt s j) 0 ≤ getD prio (moverAt s i) 0
-  -- afterwards each mover runs, on its destination
-  pub movers-run : (i : ℕ) → i < moves → Busy s (receiverAt s i) × (taskAt s (receiverAt s i) 0 ≡ moverAt s i)
-  -- afterwards no waiting task is higher than what runs on any CPU d it is allowed, and something runs there
+  -- no task moves twice
+  pub no-task-twice : (i j : ℕ) → i < j → j < moves → moverAt s i ≢ moverAt s j
+  -- the movers' priorities never rise
+  pub falling : (i j : ℕ) → i ≤ j → j < moves → prioOf start (moverAt s j) ≤ prioOf start (moverAt s i)
+  -- the count is the number of steps and of log entries, in order
+  pub counted : (vs : List Move) × Steps start vs (machineOf n s) × (moves ≡ length vs) × Entries s vs
+  -- afterwards no waiting task outranks what runs on any CPU d it is allowed, and something runs there
   pub settled : (c p d : ℕ) → c < n → 0 < p → p < getD (s .counts) c 0 → d < n → bit (getD (s .mask) (taskAt s c p) 0) d ≡ true
       → Busy s d × (getD (s .prio) (taskAt s c p) 0 ≤ getD (s .prio) (taskAt s d 0) 0)
-  -- afterwards W1 to W6 hold
-  pub well-formed : checked n r s ≡ 0
+  -- every runnable task stands in exactly one row, once: at one place, and at no other
+  pub stands : (t : ℕ) → getD (s .state) t 0 ≡ runnable
+      → (c : ℕ) × (p : ℕ) × (c < n) × (p < getD (s .counts) c 0) × (taskAt s c p ≡ t)
+      × ((d q : ℕ) → d < n → q < getD (s .counts) d 0 → taskAt s d q ≡ t → (d ≡ c) × (q ≡ p))

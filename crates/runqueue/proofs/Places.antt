@@ -11,34 +11,13 @@ use lib.Dec.{eqb, leb}
 use lib.ListN.{length, getD, replicate, length-replicate, getD-replicate, List·getD-append}
 use lib.Seq.{getD-append-add}
 use borrow.Author.Tests.{eqb-true, eqb-false, leb-true, leb-false}
-use Rattle.rules.specs.Lists.{In, Falling, place, insertBefore, delete}
+use Rattle.rules.specs.Lists.{In, place, insertBefore, delete}
 use Rattle.rules.specs.Machine.{taskPlaces}
 use Rattle.rules.specs.Tables.{nothing, padded}
-use Rattle.rules.proofs.Lists.{not-in-nil, in-cons, in-getD}
-use Rattle.rules.proofs.Order.{place-here, place-there}
+use Rattle.rules.proofs.Lists.{in-cons}
 use Rattle.runqueue.specs.Row.{ahead}
 
 -- ---- where a task stands
-
--- x is the first of the list, or stands behind it
-head-or-behind : (x y : ℕ) (ys : List ℕ) → In x (y ∷ ys) → (x ≡ y) ⊎ ((x ≢ y) × In x ys)
-head-or-behind x y ys i = go (eqb x y) refl
-  where
-    behind : x ≢ y → (x ≡ y) ⊎ In x ys → In x ys
-    behind d (inl e) = absurd (d e)
-    behind d (inr j) = j
-
-    go : (b : Bool) → eqb x y ≡ b → (x ≡ y) ⊎ ((x ≢ y) × In x ys)
-    go true e = inl (eqb-true x y e)
-    go false e = let d : x ≢ y = eqb-false x y e in inr (d, behind d (in-cons x y ys i))
-
-pub place-is : (x : ℕ) (xs : List ℕ) → In x xs → getD xs (place x xs) 0 ≡ x
-place-is x [] i = absurd (not-in-nil x i)
-place-is x (y ∷ ys) i = go (head-or-behind x y ys i) (place-is x ys)
-  where
-    go : (x ≡ y) ⊎ ((x ≢ y) × In x ys) → (In x ys → getD ys (place x ys) 0 ≡ x) → getD (y ∷ ys) (place x (y ∷ ys)) 0 ≡ x
-    go (inl e) rest = ap (λ (k : ℕ). getD (y ∷ ys) k 0) (place-here x y ys e) ∙ sym e
-    go (inr (d)) rest = ap (λ (k : ℕ). getD (y ∷ ys) k 0) (place-there x y ys (d .0)) ∙ rest (d .1)
 
 -- nothing before it is it
 pub place-before : (x : ℕ) (xs : List ℕ) (k : ℕ) → k < place x xs → getD xs k 0 ≢ x
@@ -169,14 +148,6 @@ place-le x xs i e = go (leb (place x xs) i) refl
     go : (b : Bool) → leb (place x xs) i ≡ b → place x xs ≤ i
     go true t = leb-true (place x xs) i t
     go false t = absurd (place-before x xs i (leb-false (place x xs) i t) e)
-
--- along a row the measure never rises, place by place
-pub falling-at : (p : ℕ → ℕ) (xs : List ℕ) → Falling p xs → (i j : ℕ) → i ≤ j → j < length xs → p (getD xs j 0) ≤ p (getD xs i 0)
-falling-at p [] f i j l h = absurd (not-suc-le-zero h)
-falling-at p (x ∷ xs) f zero zero l h = omega arith
-falling-at p (x ∷ xs) f zero (suc j) l h = f .0 (getD xs j 0) (in-getD xs j (le-of-suc-le-suc h))
-falling-at p (x ∷ xs) f (suc i) zero l h = absurd (not-suc-le-zero l)
-falling-at p (x ∷ xs) f (suc i) (suc j) l h = falling-at p xs (f .1) i j (le-of-suc-le-suc l) (le-of-suc-le-suc h)
 
 -- ---- the 512 places
 

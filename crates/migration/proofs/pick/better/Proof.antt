@@ -11,11 +11,11 @@ use lib.ListN.{length, getD, take, drop}
 use Rattle.rules.specs.Lists.{In}
 use Rattle.rules.specs.Machine.{Machine, prioOf, row, taskPlaces, highestPriority}
 use Rattle.rules.proofs.Lists.{not-in-nil, in-getD}
-use Rattle.rules.proofs.Order.{place-lt}
+use Rattle.rules.proofs.Order.{place-lt, place-is}
 use Rattle.rules.specs.Lists.{place}
 use Rattle.runqueue.specs.Row.{ahead}
 use Rattle.runqueue.specs.Table.{rowAt}
-use Rattle.runqueue.proofs.Places.{place-is, ahead-before, ahead-le}
+use Rattle.runqueue.proofs.Places.{ahead-before, ahead-le}
 use Rattle.runqueue.proofs.Flat.{rows-fit, place-at, as-counted}
 use Rattle.placement.proofs.Order.{above}
 use Rattle.migration.specs.Wanted.{wanted, Searchable}

@@ -14,9 +14,10 @@ use borrow.Author.Tests.{lt-ltb, le-ltb, eqb-true, eqb-false, leb-true, leb-fals
 use Rattle.cpupri.specs.Level.{levelOf}
 use Rattle.cpupri.specs.Found.{lowestLevel}
 use Rattle.bits.proofs.Tests.{and-both}
+use Rattle.rules.proofs.Lists.{falling-at}
 use Rattle.rules.specs.Lists.{Falling}
 use Rattle.runqueue.specs.Row.{ahead}
-use Rattle.runqueue.proofs.Places.{ahead-is, falling-at}
+use Rattle.runqueue.proofs.Places.{ahead-is}
 use Rattle.migration.specs.Wanted.{findable, wanted, Searchable}
 use Rattle.migration.proofs.scan.scan.Statement.{statement}
 use Rattle.migration.proofs.scan.scan.Tie as tie
