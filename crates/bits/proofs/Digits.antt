@@ -1,14 +1,14 @@
 -- A word digit by digit, lowest first: what `bit` and `putBit` are at 0 and at `suc c`, so that the other laws are inductions on the place.
 -- Assumes nothing.
-use mathlib.Core.Path.{_≡_, refl, sym, ap, ap₂, _∙_, subst}
+use mathlib.Core.Path.{_≡_, refl, sym, ap, _∙_}
 use mathlib.Core.Bool.{Bool, true, false, cond}
 use Prim.Native.Nat.{ℕ, zero, suc, _+_, _-_, _*_, _/_, _%_, _^_, _≤_, _<_}
-use native.Mathlib.Nat.{div-one, mod-lt, zero-lt-suc, le-div-iff-mul-le, pow-suc, not-suc-le-zero, le-of-suc-le-suc, mul-comm}
+use native.Mathlib.Nat.{div-one, mod-lt, zero-lt-suc, le-div-iff-mul-le, not-suc-le-zero, le-of-suc-le-suc}
 use native.Mathlib.Numerals.{one-add}
 use native.Mathlib.Omega.{arith}
 use lib.Dec.{eqb}
 use lib.Pow.{shr-shr, pow-pos}
-use borrow.Author.Tests.{eqb-true, eqb-false}
+use borrow.Author.Tests.{eqb-true}
 use Rattle.bits.specs.Bit.{bit, withBit, withoutBit, putBit, digit}
 
 -- ---- one digit

@@ -1,14 +1,14 @@
 -- The word packed from a list: its bits, what changing one element does to it, and that its set bits are the elements that pass the test.
 -- One set of laws for every test and every element type: masks of CPUs at a level and words of active levels are both packed.
 -- Assumes nothing.
-use mathlib.Core.Path.{_≡_, refl, sym, ap, ap₂, _∙_, subst}
-use mathlib.Core.Bool.{Bool, true, false, cond}
+use mathlib.Core.Path.{_≡_, refl, sym, ap, ap₂, _∙_}
+use mathlib.Core.Bool.{Bool, false}
 use mathlib.Core.List.{List, [], _∷_, _++_}
-use Prim.Native.Nat.{ℕ, zero, suc, _+_, _*_, _/_, _%_, _^_, _≤_, _<_, zero-le}
+use Prim.Native.Nat.{ℕ, zero, suc, _+_, _*_, _^_, _≤_, _<_, zero-le}
 use native.Mathlib.Nat.{not-suc-le-zero, le-of-suc-le-suc, zero-lt-suc, pow-succ'}
 use native.Mathlib.Omega.{arith}
 use lib.ListN.{length, getD, set}
-use Rattle.bits.specs.Bit.{bit, withBit, withoutBit, putBit, digit, weight, tally, packed, count}
+use Rattle.bits.specs.Bit.{bit, putBit, digit, weight, tally, packed, count}
 use Rattle.bits.proofs.Digits.{digit-lt, bit-low, bit-rest, put-zero, put-suc, rest}
 use Rattle.bits.proofs.Word.{bit-of-zero}
 use Rattle.bits.proofs.Search.{weight-step}

@@ -1,16 +1,16 @@
 -- Words as sets: what a word with or without a bit holds, that a word is its bits, and what the machine's operations make of it.
 -- Assumes nothing.
-use mathlib.Core.Path.{_≡_, refl, sym, ap, ap₂, _∙_, subst}
+use mathlib.Core.Path.{_≡_, refl, sym, ap, ap₂, _∙_}
 use mathlib.Core.Bool.{Bool, true, false, cond, _&&_}
 use mathlib.Core.Logic.{_≢_}
 use Prim.Native.Nat.{ℕ, zero, suc, _+_, _-_, _*_, _/_, _%_, _^_, _≤_, _<_, min, max, zero-le}
-use native.Mathlib.Nat.{div-eq-of-lt, lt-of-lt-of-le, zero-lt-suc, le-of-suc-le-suc, not-suc-le-zero, pow-suc, mod-lt, zero-div, mod-eq-of-lt, one-mul}
+use native.Mathlib.Nat.{div-eq-of-lt, lt-of-lt-of-le, zero-lt-suc, le-of-suc-le-suc, not-suc-le-zero, mod-eq-of-lt, one-mul}
 use native.Mathlib.Omega.{arith}
 use lib.Arith.{lt-one}
-use lib.Bits.{bitAnd, bitOr, and-step, or-step, and-mask, and-zero-r, or-zero-r}
-use lib.Pow.{pow-mono, pow-pos, pow-lt}
+use lib.Bits.{bitAnd, bitOr, and-step, or-step, and-mask, or-zero-r}
+use lib.Pow.{pow-mono, pow-lt}
 use Rattle.bits.specs.Bit.{bit, withBit, withoutBit, putBit, digit}
-use Rattle.bits.proofs.Digits.{digit-bit, digit-lt, split, bit-zero, bit-suc, bit-low, bit-rest, put-zero, put-suc, low, rest}
+use Rattle.bits.proofs.Digits.{digit-bit, digit-lt, split, bit-suc, bit-low, bit-rest, put-zero, put-suc}
 
 -- ---- a word with or without a bit
 

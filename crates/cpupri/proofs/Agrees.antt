@@ -2,24 +2,24 @@
 -- Assumes nothing.
 use mathlib.Core.Path.{_≡_, refl, sym, ap, ap₂, _∙_, subst}
 use mathlib.Core.Bool.{Bool, true, false, cond, not, _&&_, Bool·beq, false≢true}
-use mathlib.Core.Logic.{_≢_, _↔_}
+use mathlib.Core.Logic.{_≢_}
 use mathlib.Core.List.{List, [], _∷_, _++_}
-use Prim.Native.Nat.{ℕ, zero, suc, _+_, _-_, _/_, _%_, _^_, _≤_, _<_, suc-le-suc}
+use Prim.Native.Nat.{ℕ, zero, suc, _+_, _/_, _%_, _^_, _≤_, _<_, suc-le-suc}
 use native.Mathlib.Nat.{not-suc-le-zero, le-of-suc-le-suc, zero-lt-suc, add-suc, suc-add, zero-add, add-zero}
 use native.Mathlib.Omega.{arith}
 use lib.Dec.{eqb, ltb}
 use lib.ListN.{length, getD, set, take, List·getD-eq-default}
 use lib.Seq.{ext-getD, take-suc, length-take-le}
 use borrow.Author.Tests.{eqb-true, eqb-false, eq-eqb, ne-eqb, ltb-true, ltb-false, lt-ltb, le-ltb, not-true}
-use Rattle.bits.specs.Bit.{bit, withBit, putBit, weight, packed, tally}
+use Rattle.bits.specs.Bit.{bit, withBit, putBit, weight}
 use Rattle.bits.proofs.Word.{word-ext, bit-above, put-same}
 use Rattle.bits.proofs.Tests.{and-left, and-right, and-both}
 use Rattle.bits.proofs.Packed.{bit-packed, packed-lt, packed-snoc, weight-packed}
 use Rattle.cpupri.specs.Level.{levelCount, cpuPlaces, unused, invalid, known}
-use Rattle.cpupri.specs.Record.{table, maskAt, countAt, masksOf, countsOf, active, wordsOf, recordOf, Whole}
+use Rattle.cpupri.specs.Record.{maskAt, countAt, masksOf, countsOf, active, wordsOf, recordOf, Whole}
 use Rattle.cpupri.specs.Consistent.{levelFits, fitFrom, levelsFit, same, agrees, consistent, joined, Sized, Consistent}
 use Rattle.cpupri.specs.declared.record.Record.{Record}
-use Rattle.cpupri.proofs.Table.{getD-table, table-cong, table-set}
+use Rattle.cpupri.proofs.Table.{table-cong, table-set}
 use Rattle.cpupri.proofs.Moved.{length-masks, length-counts, mask-at, count-at}
 use Rattle.cpupri.proofs.Whole.{record-ext, level-known}
 use Rattle.cpupri.proofs.Words.{words-bit, words-ext, word-one-lt}

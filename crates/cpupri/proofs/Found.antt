@@ -1,24 +1,23 @@
 -- What the lowest-priority search finds: a level exactly if some allowed CPU has a lower one than was asked, and then the lowest set bit of the
 -- mask is the lowest-numbered allowed CPU of the lowest level.
 -- Assumes nothing.
-use mathlib.Core.Path.{_≡_, refl, sym, ap, ap₂, _∙_, subst}
+use mathlib.Core.Path.{_≡_, refl, sym, ap, _∙_}
 use mathlib.Core.Bool.{Bool, true, false, not, cond, _&&_, false≢true}
 use mathlib.Core.List.{List}
 use Prim.Native.Nat.{ℕ, _^_, _≤_, _<_}
 use native.Mathlib.Nat.{lt-of-le-of-lt, le-trans, le-of-eq}
 use native.Mathlib.Omega.{arith}
-use lib.Bits.{bitAnd, and-le-r}
+use lib.Bits.{and-le-r}
 use lib.Dec.{eqb, ltb}
 use lib.ListN.{length, getD}
 use borrow.Author.Tests.{eqb-true, eq-eqb, ne-eqb, ltb-true, ltb-false, lt-ltb, le-ltb, not-true, eqb-false}
-use Rattle.bits.specs.Bit.{bit, first, lowest}
+use Rattle.bits.specs.Bit.{bit, lowest}
 use Rattle.bits.proofs.Tests.{and-left, and-right, and-both}
 use Rattle.bits.proofs.Word.{bit-and, bit-of-zero}
 use Rattle.bits.proofs.Search.{first-holds, first-at-most, lowest-bit, lowest-lt, lowest-at-most}
-use Rattle.cpupri.specs.Level.{levelCount, cpuPlaces, invalid}
-use Rattle.cpupri.specs.Record.{masksOf, maskAt}
+use Rattle.cpupri.specs.Level.{levelCount, cpuPlaces}
+use Rattle.cpupri.specs.Record.{masksOf}
 use Rattle.cpupri.specs.Found.{allowedAt, anyAt, lowestLevel, lowestFound}
-use Rattle.cpupri.specs.declared.find.Found.{Found}
 use Rattle.cpupri.specs.declared.find.Found.the-variants.{Cpus, Nothing}
 use Rattle.cpupri.proofs.Moved.{mask-at}
 use Rattle.cpupri.proofs.Agrees.{mask-bit}

@@ -1,20 +1,20 @@
 -- What masks, counts and words become when one CPU changes its level: each changes at one level, where the CPU joins or leaves it.
 -- Assumes nothing.
-use mathlib.Core.Path.{_≡_, refl, sym, ap, ap₂, _∙_, subst}
+use mathlib.Core.Path.{_≡_, refl, sym, ap, ap₂, _∙_}
 use mathlib.Core.Bool.{Bool, true, false}
 use mathlib.Core.Logic.{_≢_}
 use mathlib.Core.List.{List, [], _∷_}
-use Prim.Native.Nat.{ℕ, zero, suc, _+_, _-_, _/_, _%_, _≤_, _<_}
+use Prim.Native.Nat.{ℕ, _+_, _/_, _%_, _≤_, _<_}
 use native.Mathlib.Omega.{arith}
 use lib.Dec.{eqb, ltb}
-use lib.ListN.{length, getD, set, take, drop, length-take, length-drop, length-set}
+use lib.ListN.{length, getD, set, take, drop, length-take, length-drop}
 use lib.Seq.{take-set-lt, take-set-le, drop-set-lt, drop-set-add}
-use borrow.Author.Tests.{ne-eqb, eq-eqb, ltb-true, ltb-false, lt-ltb}
-use Rattle.bits.specs.Bit.{bit, putBit, digit, packed, tally}
+use borrow.Author.Tests.{ltb-true, ltb-false}
+use Rattle.bits.specs.Bit.{putBit, digit, packed}
 use Rattle.bits.proofs.Word.{put-same}
 use Rattle.bits.proofs.Packed.{bit-packed, packed-set, tally-set}
-use Rattle.cpupri.specs.Level.{levelCount, invalid}
-use Rattle.cpupri.specs.Record.{table, maskAt, countAt, masksOf, countsOf, active, wordsOf}
+use Rattle.cpupri.specs.Level.{levelCount}
+use Rattle.cpupri.specs.Record.{maskAt, countAt, masksOf, countsOf, active, wordsOf}
 use Rattle.cpupri.proofs.Table.{length-table, getD-table, table-set}
 
 pub length-masks : (xs : List ℕ) → length (masksOf xs) ≡ levelCount

@@ -1,22 +1,21 @@
 -- A record that its levels determine stays one when a CPU joins or leaves a level: the record that the code makes is the new levels' record.
 -- Assumes nothing.
-use mathlib.Core.Path.{_≡_, refl, sym, ap, ap₂, _∙_, subst}
-use mathlib.Core.Bool.{Bool, true, false, not, _||_, false≢true}
+use mathlib.Core.Path.{_≡_, refl, sym, ap, ap₂, _∙_}
+use mathlib.Core.Bool.{Bool, true, false, not, _||_}
 use mathlib.Core.Logic.{_≢_}
-use mathlib.Core.List.{List, [], _∷_, _++_}
-use Prim.Native.Nat.{ℕ, zero, suc, _+_, _-_, _/_, _%_, _≤_, _<_, zero-le}
-use native.Mathlib.Nat.{zero-lt-suc, lt-of-lt-of-le}
+use mathlib.Core.List.{List}
+use Prim.Native.Nat.{ℕ, zero, suc, _+_, _-_, _/_, _%_, _≤_, _<_}
 use native.Mathlib.Omega.{arith}
 use lib.Dec.{eqb, ltb, leb·zero, leb·suc-suc, eqb·suc-zero}
 use lib.ListN.{length, getD, set, length-set}
 use lib.Seq.{getD-set-same, getD-set-other, set-getD}
-use borrow.Author.Tests.{ne-eqb, eq-eqb, eqb-true, eqb-false, ltb-true, ltb-false, lt-ltb, le-ltb}
+use borrow.Author.Tests.{ne-eqb, eq-eqb, eqb-true, eqb-false, ltb-true, lt-ltb}
 use Rattle.bits.specs.Bit.{withBit, withoutBit, putBit, digit, tally}
 use Rattle.bits.proofs.Packed.{tally-le}
 use Rattle.cpupri.specs.Level.{levelCount, cpuPlaces, invalid, known}
 use Rattle.cpupri.specs.Record.{countAt, masksOf, countsOf, active, wordsOf, recordOf, Whole}
 use Rattle.cpupri.specs.declared.record.Record.{Record}
-use Rattle.cpupri.proofs.Moved.{length-counts, mask-at, count-at, count-moved, masks-moved, counts-moved, words-moved}
+use Rattle.cpupri.proofs.Moved.{length-counts, count-at, count-moved, masks-moved, counts-moved, words-moved}
 
 -- ---- levels
 

@@ -2,16 +2,16 @@
 -- Assumes nothing.
 use mathlib.Core.Path.{_≡_, refl, sym, ap, ap₂, _∙_, subst}
 use mathlib.Core.Bool.{Bool, true, false, _&&_, false≢true}
-use mathlib.Core.Logic.{_≢_, _⊎_, inl, inr}
+use mathlib.Core.Logic.{_⊎_, inl, inr}
 use mathlib.Core.List.{List, [], _∷_, tail}
-use Prim.Native.Nat.{ℕ, zero, suc, _+_, _-_, _*_, _≤_, _<_, suc-le-suc}
-use native.Mathlib.Nat.{not-suc-le-zero, le-trans, le-of-suc-le-suc}
+use Prim.Native.Nat.{ℕ, suc, _*_, _≤_, _<_}
+use native.Mathlib.Nat.{not-suc-le-zero, le-of-suc-le-suc}
 use native.Mathlib.Omega.{arith}
 use lib.Arith.{lt-of-le-ne, le-zero}
 use lib.Dec.{eqb, ltb, leb}
 use lib.ListN.{length, getD, take, drop}
-use lib.Seq.{getD-take, length-take-le}
-use borrow.Author.Tests.{ltb-true, ltb-false, lt-ltb, le-ltb, eqb-true, eqb-false, leb-true, leb-false}
+use lib.Seq.{getD-take}
+use borrow.Author.Tests.{ltb-true, ltb-false, eqb-true, eqb-false, leb-true, leb-false}
 use Rattle.bits.proofs.Tests.{and-left, and-right, and-both, fails}
 use Rattle.cpupri.specs.Level.{levelOf}
 use Rattle.cpupri.specs.Found.{lowestLevel}
@@ -19,20 +19,20 @@ use Rattle.cpupri.specs.Record.{recordOf, masksOf}
 use Rattle.rules.specs.Lists.{In, Falling, place, occ}
 use Rattle.rules.specs.Machine.{Machine, taskOf, prioOf, row, levels, taskPlaces}
 use Rattle.rules.specs.Migration.{movable}
-use Rattle.rules.specs.WellFormed.{WellFormed, Fit}
+use Rattle.rules.specs.WellFormed.{Fit}
 use Rattle.rules.proofs.Apart.{in-row, once, runnable-fit}
 use Rattle.rules.proofs.Finder.{movable-found, found-movable}
-use Rattle.rules.proofs.Lists.{in-here, in-there, in-getD, occ-cons, digit-same, not-in-nil, falling-at}
+use Rattle.rules.proofs.Lists.{in-there, in-getD, occ-cons, digit-same, not-in-nil, falling-at}
 use Rattle.rules.proofs.Order.{place-lt, place-there, place-is}
-use Rattle.runqueue.specs.Row.{ahead, HoldsRow}
+use Rattle.runqueue.specs.Row.{ahead}
 use Rattle.runqueue.specs.Table.{HoldsRows, rowAt}
-use Rattle.runqueue.proofs.Places.{place-le, ahead-before, ahead-here, ahead-le}
+use Rattle.runqueue.proofs.Places.{place-le, ahead-before, ahead-here}
 use Rattle.runqueue.proofs.Queued.{row-size}
 use Rattle.runqueue.proofs.Flat.{count-is, part-held, part-taken}
 use Rattle.placement.specs.Held.{Held}
 use Rattle.placement.proofs.Order.{well-formed-order, holds, read-row, cpus-counted, above}
 use Rattle.migration.specs.Wanted.{findable, wanted, Searchable}
-use Rattle.migration.specs.Foremost.{Looking, Foremost, BestOf}
+use Rattle.migration.specs.Foremost.{Looking, BestOf}
 use Rattle.migration.specs.declared.pick.Mover.{Mover}
 
 -- ---- tails

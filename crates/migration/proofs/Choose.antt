@@ -2,18 +2,18 @@
 -- level.
 -- Assumes nothing.
 use mathlib.Core.Path.{_≡_, refl, sym, ap, _∙_, subst}
-use mathlib.Core.Bool.{Bool, true, false, false≢true}
-use mathlib.Core.List.{List, [], _∷_, tail}
+use mathlib.Core.Bool.{true, false, false≢true}
+use mathlib.Core.List.{List, tail}
 use mathlib.Core.Option.{Option, none, some}
 use Prim.Native.Nat.{ℕ, _≤_, _<_}
 use native.Mathlib.Omega.{arith}
-use lib.ListN.{length, getD, set}
+use lib.ListN.{set}
 use lib.Seq.{set-getD}
 use Rattle.bits.specs.Bit.{lowest}
 use Rattle.cpupri.specs.Level.{levelOf}
 use Rattle.cpupri.specs.Found.{lowestLevel, allowedAt}
 use Rattle.cpupri.specs.Record.{masksOf}
-use Rattle.rules.specs.Lists.{In, place, delete}
+use Rattle.rules.specs.Lists.{In, delete}
 use Rattle.rules.specs.Machine.{Machine, taskOf, prioOf, row, flag, level, levels, rowLevel, allowed, dequeue}
 use Rattle.rules.specs.Migration.{Move, Chosen, waiting, movable, destination, next}
 use Rattle.rules.specs.WellFormed.{WellFormed, Fit}
@@ -24,7 +24,7 @@ use Rattle.rules.proofs.Lists.{tails-in, delete-behind}
 use Rattle.rules.proofs.Record.{levels-below}
 use Rattle.rules.proofs.Step.{Origin, origin-row, origin-small}
 use Rattle.placement.proofs.Levels.{levels-row}
-use Rattle.migration.specs.Foremost.{Foremost, BestOf}
+use Rattle.migration.specs.Foremost.{Foremost}
 use Rattle.migration.proofs.Candidates.{tail-in}
 use Rattle.migration.specs.declared.pick.Mover.{Mover}
 

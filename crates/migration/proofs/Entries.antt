@@ -2,12 +2,12 @@
 -- Assumes nothing.
 use mathlib.Core.Path.{_≡_, refl, sym, ap, ap₂, _∙_}
 use mathlib.Core.List.{List, [], _∷_, _++_, append-assoc}
-use Prim.Native.Nat.{ℕ, suc, _+_, _*_, _≤_, _<_}
+use Prim.Native.Nat.{ℕ, suc, _+_, _*_, _<_}
 use native.Mathlib.Omega.{arith}
 use lib.ListN.{length, getD, set, drop, length-append}
 use lib.Seq.{drop-cons, set-at}
 use Rattle.rules.specs.Migration.{Move}
-use Rattle.rules.specs.Outcome.{entryWidth, logNumbers, logged}
+use Rattle.rules.specs.Outcome.{logNumbers, logged}
 use Rattle.rules.proofs.Log.{length-numbers}
 
 numbers-snoc : (l : List Move) (v : Move) → logNumbers (l ++ (v ∷ [])) ≡ logNumbers l ++ (v .task ∷ v .origin ∷ v .target ∷ [])

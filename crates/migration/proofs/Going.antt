@@ -1,6 +1,6 @@
 -- The steps under way: the tables hold the machine that the steps so far lead to, and the log has their entries.
 -- Assumes nothing.
-use mathlib.Core.Path.{_≡_, refl, sym, ap, ap₂, _∙_, subst}
+use mathlib.Core.Path.{_≡_, refl, sym, ap, _∙_, subst}
 use mathlib.Core.List.{List, [], _∷_, _++_}
 use mathlib.Core.Option.{some, none}
 use Prim.Native.Nat.{ℕ, suc, _+_, _*_, _≤_, _<_}
@@ -13,8 +13,8 @@ use Rattle.cpupri.specs.Record.{recordOf, masksOf}
 use Rattle.cpupri.specs.declared.record.Record.{Record}
 use Rattle.rules.specs.Machine.{Machine, taskOf, prioOf, levels, enqueue, dequeue, taskPlaces}
 use Rattle.rules.specs.Migration.{Move, Settled, next, settled}
-use Rattle.rules.specs.Outcome.{entryWidth, logNumbers, logged}
-use Rattle.rules.specs.Tables.{flatOf, rowCounts, logPlaces}
+use Rattle.rules.specs.Outcome.{logNumbers, logged}
+use Rattle.rules.specs.Tables.{flatOf, logPlaces}
 use Rattle.rules.specs.WellFormed.{WellFormed}
 use Rattle.rules.proofs.Log.{length-logged}
 use Rattle.rules.proofs.Tables.{length-flat}

@@ -1,16 +1,16 @@
 -- Steps taken one after the other: they are the first of `settle`, there are fewer than N, and where none applies they are all.
 -- Assumes nothing.
-use mathlib.Core.Path.{_≡_, refl, sym, ap, ap₂, _∙_, subst, subst₂}
+use mathlib.Core.Path.{_≡_, refl, sym, ap, _∙_, subst, subst₂}
 use mathlib.Core.List.{List, [], _∷_, _++_, append-assoc, append-nil}
-use mathlib.Core.Option.{Option, none, some}
-use Prim.Native.Nat.{ℕ, zero, suc, _+_, _-_, _≤_, _<_}
+use mathlib.Core.Option.{none, some}
+use Prim.Native.Nat.{ℕ, suc, _+_, _-_, _<_}
 use native.Mathlib.Nat.{zero-add}
 use native.Mathlib.Omega.{arith}
 use lib.ListN.{length, length-append}
 use Rattle.rules.specs.Machine.{Machine}
 use Rattle.rules.specs.Migration.{Move, Settled, onward, next, migrate, settle, settled}
 use Rattle.rules.specs.WellFormed.{WellFormed}
-use Rattle.rules.proofs.Runs.{Run, out, stop, step, run-well-formed, run-n, run-few}
+use Rattle.rules.proofs.Runs.{Run, out, step, run-well-formed, run-few}
 
 -- from m the steps l have been taken, and lead to e
 pub data Taken (m : Machine) : List Move → Machine → Type 0 where

@@ -7,7 +7,7 @@ use Prim.Native.Nat.{ℕ}
 use lib.ListN.{length}
 use Rattle.cpupri.specs.declared.record.Record.{Record}
 use Rattle.rules.specs.Machine.{Machine}
-use Rattle.rules.specs.Migration.{Move, Settled, next}
+use Rattle.rules.specs.Migration.{Settled, next}
 use Rattle.rules.specs.Outcome.{logged}
 use Rattle.rules.specs.WellFormed.{WellFormed}
 use Rattle.placement.specs.Held.{Held}

@@ -1,10 +1,10 @@
 -- The levels of a machine in which one CPU's level changes, and that its record is whole.
 -- Assumes nothing.
-use mathlib.Core.Path.{_≡_, refl, sym, ap, _∙_, subst}
+use mathlib.Core.Path.{_≡_, refl, sym, ap, _∙_}
 use mathlib.Core.Bool.{Bool, true, false}
 use mathlib.Core.Logic.{_≢_}
 use mathlib.Core.List.{List, [], _∷_}
-use Prim.Native.Nat.{ℕ, _+_, _≤_, _<_}
+use Prim.Native.Nat.{ℕ, _≤_, _<_}
 use native.Mathlib.Omega.{arith}
 use lib.Dec.{eqb, ltb}
 use lib.ListN.{length, getD, set, length-set}
@@ -14,7 +14,7 @@ use Rattle.cpupri.specs.Level.{levelCount, known}
 use Rattle.cpupri.specs.Record.{recordOf, Whole}
 use Rattle.cpupri.proofs.Whole.{level-known}
 use Rattle.rules.specs.Lists.{In}
-use Rattle.rules.specs.Machine.{Machine, prioOf, row, flag, level, levels, rowLevel, levelOf, withRow, cpuPlaces, highestPriority}
+use Rattle.rules.specs.Machine.{Machine, prioOf, flag, level, levels, rowLevel, withRow, cpuPlaces, highestPriority}
 use Rattle.rules.proofs.Lists.{in-here}
 use Rattle.rules.proofs.Record.{length-levels, levels-below, levels-above}
 use Rattle.rules.proofs.Rows.{row-same, row-other}

@@ -3,7 +3,7 @@
 use mathlib.Core.Path.{_≡_, refl, sym, ap, _∙_, subst}
 use mathlib.Core.Logic.{_≢_, _⊎_, inl, inr}
 use mathlib.Core.List.{List, [], _∷_}
-use Prim.Native.Nat.{ℕ, suc, _*_, _≤_, _<_}
+use Prim.Native.Nat.{ℕ, _*_, _≤_, _<_}
 use native.Mathlib.Nat.{le-of-lt, suc-ne-zero, not-suc-le-zero}
 use native.Mathlib.Omega.{arith}
 use lib.Dec.{ltb}
@@ -11,14 +11,14 @@ use lib.ListN.{length, getD, set, length-set, length-map}
 use Rattle.cpupri.specs.Record.{recordOf, Whole}
 use Rattle.cpupri.specs.declared.record.Record.{Record}
 use Rattle.rules.specs.Lists.{In, Falling, delete}
-use Rattle.rules.specs.Machine.{Machine, taskOf, prioOf, row, flag, level, levels, rowLevel, levelOf, queued, withRow, taskPlaces, runnable, highestPriority}
+use Rattle.rules.specs.Machine.{Machine, taskOf, prioOf, row, flag, levels, rowLevel, levelOf, queued, withRow, taskPlaces, highestPriority}
 use Rattle.rules.specs.Tables.{rowsOf, flatOf, rowCounts}
-use Rattle.rules.specs.WellFormed.{WellFormed, Fit, standing}
+use Rattle.rules.specs.WellFormed.{WellFormed, Fit}
 use Rattle.rules.proofs.Apart.{Apart, in-row, in-other, in-place, room, queued-joins, standing-means, runnable-fit, runnable-place, fit-of}
 use Rattle.rules.proofs.Lists.{same?, digit-other, in-here, in-delete, length-delete, occ-insert, length-insert, falling-delete}
 use Rattle.rules.proofs.Room.{row-fits}
 use Rattle.rules.proofs.Rows.{row-cases}
-use Rattle.rules.proofs.Tables.{Fitting, read-written}
+use Rattle.rules.proofs.Tables.{read-written}
 use Rattle.runqueue.specs.Table.{HoldsRows, rowAt, rowsWith}
 use Rattle.runqueue.proofs.Flat.{holds-written, first-place}
 use Rattle.placement.specs.Held.{InOrder, Held}

@@ -1,9 +1,9 @@
 -- What the lent tables hold of a machine, as far as its run queues and levels go.
 -- Assumes nothing.
 use mathlib.Core.Path.{_≡_}
-use mathlib.Core.List.{List, []}
+use mathlib.Core.List.{List}
 use Prim.Native.Nat.{ℕ, _≤_, _<_}
-use lib.ListN.{length, getD}
+use lib.ListN.{length}
 use Rattle.cpupri.specs.Record.{recordOf}
 use Rattle.cpupri.specs.declared.record.Record.{Record}
 use Rattle.rules.specs.Lists.{In, Falling}

@@ -44,13 +44,12 @@ run-steps (step h r) n = Steps.step h (run-steps r n)
 -- a runnable task stands in the row of its CPU, once, and in no other
 stands-once : (m : Machine) → WellFormed m → (t : ℕ) → taskOf m t .state ≡ runnable
     → (c : ℕ) × (c < m .n) × (occ t (row m c) ≡ 1) × ((d : ℕ) → d ≢ c → occ t (row m d) ≡ 0)
-stands-once m w t s =
-    (
-      taskOf m t .cpu,
-      runnable-fit m t w s .cpu,
-      w .rows t (taskOf m t .cpu) ∙ standing-home (taskOf m t) (taskOf m t .cpu) s refl,
-      λ d n. w .rows t d ∙ standing-away (taskOf m t) d (λ e. n (sym e)),
-    )
+stands-once m w t s = (
+  taskOf m t .cpu,
+  runnable-fit m t w s .cpu,
+  w .rows t (taskOf m t .cpu) ∙ standing-home (taskOf m t) (taskOf m t .cpu) s refl,
+  λ d n. w .rows t d ∙ standing-away (taskOf m t) d (λ e. n (sym e)),
+)
 
 -- the steps from any well-formed machine
 pub settled-well-formed : (m : Machine) → WellFormed m → WellFormed (settled m .machine)

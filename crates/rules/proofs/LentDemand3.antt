@@ -55,6 +55,7 @@ only xs x i j h li lj ei ej = go (ltb i j) refl (ltb j i) refl
         let two : 2 ≤ occ (getD xs a 0) xs = at-two xs a b l k (ea ∙ sym eb) in
         let same : occ (getD xs a 0) xs ≡ occ x xs = ap (λ (y : ℕ). occ y xs) ea in
         omega arith
+
     go : (p : Bool) → ltb i j ≡ p → (q : Bool) → ltb j i ≡ q → i ≡ j
     go true e q f = absurd (twice i j (ltb-true i j e) lj ei ej)
     go false e true f = absurd (twice j i (ltb-true j i f) li ej ei)
@@ -117,20 +118,19 @@ module _ (n : ℕ) (r : Record) (s : Tables) (g : Good n r s) where
       let i : In t (row m c) = row-in m t w h in
       let inside : place t (row m c) < length (row m c) = place-lt t (row m c) i in
       let small : c < n = runnable-fit m t w h .cpu in
-      let stored : place t (row m c) < getD (s .counts) c 0 = omega (arith, row-length c) in
-      (
+      let stored : place t (row m c) < getD (s .counts) c 0 = omega (arith, row-length c) in (
         c,
         place t (row m c),
         small,
         stored,
         sym (row-place c (place t (row m c)) small stored) ∙ place-is t (row m c) i,
         λ d q l k e.
-        let here : getD (row m d) q 0 ≡ t = row-place d q l k ∙ e in
-        let long : q < length (row m d) = omega (arith, row-length d) in
-        let home : d ≡ taskOf m t .cpu = sym (in-row m t d w (subst (λ (u : ℕ). In u (row m d)) here (in-getD (row m d) q long)) .1) in
-        let at-home : getD (row m c) q 0 ≡ t = subst (λ (x : ℕ). getD (row m x) q 0 ≡ t) home here in
-        let long-home : q < length (row m c) = subst (λ (x : ℕ). q < length (row m x)) home long in
-        (home, only (row m c) t q (place t (row m c)) (once m t c w) long-home inside at-home (place-is t (row m c) i)),
+            let here : getD (row m d) q 0 ≡ t = row-place d q l k ∙ e in
+            let long : q < length (row m d) = omega (arith, row-length d) in
+            let home : d ≡ taskOf m t .cpu = sym (in-row m t d w (subst (λ (u : ℕ). In u (row m d)) here (in-getD (row m d) q long)) .1) in
+            let at-home : getD (row m c) q 0 ≡ t = subst (λ (x : ℕ). getD (row m x) q 0 ≡ t) home here in
+            let long-home : q < length (row m c) = subst (λ (x : ℕ). q < length (row m x)) home long in
+            (home, only (row m c) t q (place t (row m c)) (once m t c w) long-home inside at-home (place-is t (row m c) i)),
       )
 
 -- ---- the log by its numbers

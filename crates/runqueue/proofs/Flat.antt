@@ -1,59 +1,17 @@
 -- One row within the flat table: the part that it is, and the table after that part has changed.
 -- Assumes nothing.
 use mathlib.Core.Path.{_≡_, refl, sym, ap, ap₂, _∙_, subst, subst₂}
-use mathlib.Core.List.{List, [], _∷_, _++_, map, append-assoc}
+use mathlib.Core.List.{List, [], _∷_, _++_}
 use Prim.Native.Nat.{ℕ, zero, suc, _+_, _-_, _*_, _≤_, _<_}
-use native.Mathlib.Nat.{not-suc-le-zero, le-of-suc-le-suc}
 use native.Mathlib.Omega.{arith}
-use lib.ListN.{length, getD, set, take, drop, replicate, length-map, take-append-drop}
-use lib.Seq.{take-append-add, drop-append-add, take-at, drop-at, getD-drop, getD-take}
-use Rattle.rules.specs.Lists.{In, joined}
+use lib.ListN.{length, getD, set, take, drop, replicate}
+use lib.Seq.{take-at, drop-drop, getD-drop, getD-take}
 use Rattle.rules.specs.Machine.{taskPlaces}
 use Rattle.rules.specs.Tables.{nothing, rowsOf, padded, flatOf, rowCounts}
-use Rattle.rules.proofs.Lists.{in-getD}
-use Rattle.rules.proofs.Tables.{Fitting, length-padded, read-written, length-rowsOf, length-flat}
+use Rattle.rules.proofs.Tables.{Fitting, read-written, length-rowsOf, length-flat, flat-row, flat-set, counts-set}
 use Rattle.runqueue.proofs.Places.{padded-in}
 use Rattle.runqueue.specs.Row.{HoldsRow}
 use Rattle.runqueue.specs.Table.{HoldsRows, rowAt, rowsWith}
-
-flat-cons : (r : List ℕ) (rs : List (List ℕ)) → flatOf (r ∷ rs) ≡ padded r ++ flatOf rs
-unfolding flatOf joined
-flat-cons r rs = refl
-
--- past the first row
-past-first : (r : List ℕ) (rs : List (List ℕ)) (n : ℕ) → length r ≤ taskPlaces → drop (taskPlaces + n) (flatOf (r ∷ rs)) ≡ drop n (flatOf rs)
-past-first r rs n h =
-    let size : length (padded r) ≡ taskPlaces = length-padded r h in
-    ap (drop (taskPlaces + n)) (flat-cons r rs) ∙ ap (λ (k : ℕ). drop (k + n) (padded r ++ flatOf rs)) (sym size) ∙ drop-append-add (padded r) (flatOf rs) n
-
-next-start : (c : ℕ) → taskPlaces * suc c ≡ taskPlaces + taskPlaces * c
-next-start c = omega arith
-
--- the part from 512 * c on is row c
-pub part-is : (rs : List (List ℕ)) (c : ℕ) → Fitting rs → c < length rs → take taskPlaces (drop (taskPlaces * c) (flatOf rs)) ≡ padded (getD rs c [])
-part-is [] c f h = absurd (not-suc-le-zero h)
-part-is (r ∷ rs) zero f h =
-    ap (take taskPlaces) (flat-cons r rs) ∙ take-at (padded r) (flatOf rs) taskPlaces (length-padded r (f zero))
-part-is (r ∷ rs) (suc c) f h =
-    ap (λ (k : ℕ). take taskPlaces (drop k (flatOf (r ∷ rs)))) (next-start c)
-    ∙ ap (take taskPlaces) (past-first r rs (taskPlaces * c) (f zero)) ∙ part-is rs c (λ d. f (suc d)) (le-of-suc-le-suc h)
-
--- with another row there the rest is as it was
-pub flat-set : (rs : List (List ℕ)) (c : ℕ) (q : List ℕ) → Fitting rs → c < length rs
-    → take (taskPlaces * c) (flatOf rs) ++ (padded q ++ drop taskPlaces (drop (taskPlaces * c) (flatOf rs))) ≡ flatOf (set rs c q)
-flat-set [] c q f h = absurd (not-suc-le-zero h)
-flat-set (r ∷ rs) zero q f h =
-    ap (λ (l : List ℕ). padded q ++ l) (ap (drop taskPlaces) (flat-cons r rs) ∙ drop-at (padded r) (flatOf rs) taskPlaces (length-padded r (f zero)))
-    ∙ sym (flat-cons q rs)
-flat-set (r ∷ rs) (suc c) q f h =
-    let size : length (padded r) ≡ taskPlaces = length-padded r (f zero) in
-    let front : take (taskPlaces + taskPlaces * c) (flatOf (r ∷ rs)) ≡ padded r ++ take (taskPlaces * c) (flatOf rs) =
-    ap (take (taskPlaces + taskPlaces * c)) (flat-cons r rs) ∙ ap (λ (k : ℕ). take (k + taskPlaces * c) (padded r ++ flatOf rs)) (sym size)
-    ∙ take-append-add (padded r) (flatOf rs) (taskPlaces * c) in
-    ap (λ (k : ℕ). take k (flatOf (r ∷ rs)) ++ (padded q ++ drop taskPlaces (drop k (flatOf (r ∷ rs))))) (next-start c)
-    ∙ ap₂ (λ (a b : List ℕ). a ++ (padded q ++ drop taskPlaces b)) front (past-first r rs (taskPlaces * c) (f zero))
-    ∙ append-assoc (padded r) (take (taskPlaces * c) (flatOf rs)) (padded q ++ drop taskPlaces (drop (taskPlaces * c) (flatOf rs)))
-    ∙ ap (λ (l : List ℕ). padded r ++ l) (flat-set rs c q (λ d. f (suc d)) (le-of-suc-le-suc h)) ∙ sym (flat-cons r (set rs c q))
 
 -- ---- counts
 
@@ -61,11 +19,6 @@ pub count-at : (rs : List (List ℕ)) (c : ℕ) → getD (rowCounts rs) c 0 ≡ 
 count-at [] c = refl
 count-at (r ∷ rs) zero = refl
 count-at (r ∷ rs) (suc c) = count-at rs c
-
-pub counts-set : (rs : List (List ℕ)) (c : ℕ) (q : List ℕ) → set (rowCounts rs) c (length q) ≡ rowCounts (set rs c q)
-counts-set [] c q = refl
-counts-set (r ∷ rs) zero q = refl
-counts-set (r ∷ rs) (suc c) q = ap (λ (l : List ℕ). length r ∷ l) (counts-set rs c q)
 
 -- ---- one row, held
 
@@ -85,7 +38,7 @@ module _ (counts rows : List ℕ) (held : HoldsRows counts rows) (c : ℕ) (hc :
   count-is = ap (λ (ks : List ℕ). getD ks c 0) (held .counted) ∙ count-at (rowsOf counts rows) c
 
   pub part-row : take taskPlaces (drop (taskPlaces * c) rows) ≡ padded (rowAt counts rows c)
-  part-row = ap (λ (l : List ℕ). take taskPlaces (drop (taskPlaces * c) l)) (held .written) ∙ part-is (rowsOf counts rows) c (held .fits) c-in
+  part-row = ap (λ (l : List ℕ). take taskPlaces (drop (taskPlaces * c) l)) (held .written) ∙ flat-row (rowsOf counts rows) (held .fits) c c-in
 
   -- the part holds the row, and that is what its count takes
   pub part-held : HoldsRow (getD counts c 0) (take taskPlaces (drop (taskPlaces * c) rows))
@@ -105,11 +58,12 @@ module _ (counts rows : List ℕ) (held : HoldsRows counts rows) (c : ℕ) (hc :
   -- the part becomes another row's, and the count its length
   pub rows-become : (q : List ℕ) → take (taskPlaces * c) rows ++ (padded q ++ drop taskPlaces (drop (taskPlaces * c) rows)) ≡ flatOf (rowsWith counts rows c q)
   rows-become q =
-      ap (λ (l : List ℕ). take (taskPlaces * c) l ++ (padded q ++ drop taskPlaces (drop (taskPlaces * c) l))) (held .written)
-      ∙ flat-set (rowsOf counts rows) c q (held .fits) c-in
+      ap (λ (l : List ℕ). take (taskPlaces * c) rows ++ (padded q ++ l)) (drop-drop taskPlaces (taskPlaces * c) rows)
+      ∙ ap (λ (l : List ℕ). take (taskPlaces * c) l ++ (padded q ++ drop (taskPlaces * c + taskPlaces) l)) (held .written)
+      ∙ sym (flat-set (rowsOf counts rows) (held .fits) c q c-in)
 
   pub counts-become : (q : List ℕ) → set counts c (length q) ≡ rowCounts (rowsWith counts rows c q)
-  counts-become q = ap (λ (ks : List ℕ). set ks c (length q)) (held .counted) ∙ counts-set (rowsOf counts rows) c q
+  counts-become q = ap (λ (ks : List ℕ). set ks c (length q)) (held .counted) ∙ sym (counts-set (rowsOf counts rows) c q)
 
   -- place i of the row stands at the row's start and i
   pub place-at : (i : ℕ) → i < length (rowAt counts rows c) → getD rows (c * taskPlaces + i) 0 ≡ getD (rowAt counts rows c) i 0

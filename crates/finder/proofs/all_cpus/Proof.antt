@@ -1,9 +1,8 @@
 -- `finder::all_cpus` meets its contract. The loop's invariant: the record is whole. Assumes what io's functions assume.
 use borrow.Author.Needs.{needs}
-use mathlib.Core.Path.{_≡_, refl, subst⁻¹}
+use mathlib.Core.Path.{subst⁻¹}
 use Prim.Native.Nat.{_-_, _≤_}
 use native.Mathlib.Omega.{arith}
-use Rattle.cpupri.specs.Level.{known, invalid, levelOf}
 use Rattle.cpupri.specs.Record.{Whole}
 use Rattle.cpupri.proofs.Fresh.{fresh-whole}
 use Rattle.cpupri.proofs.Whole.{whole-set, level-known}

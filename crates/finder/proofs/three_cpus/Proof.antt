@@ -1,8 +1,7 @@
 -- `finder::three_cpus` meets its contract: the record stays whole from level to level. Assumes what io's functions assume.
 use borrow.Author.Needs.{needs}
-use mathlib.Core.Path.{_≡_, refl, subst⁻¹}
-use Prim.Native.Nat.{_-_, _≤_}
-use Rattle.cpupri.specs.Level.{known, invalid, levelOf}
+use mathlib.Core.Path.{refl, subst⁻¹}
+use Rattle.cpupri.specs.Level.{known}
 use Rattle.cpupri.specs.Record.{Whole}
 use Rattle.cpupri.proofs.Fresh.{fresh-whole}
 use Rattle.cpupri.proofs.Whole.{whole-set, level-known}

@@ -1,10 +1,9 @@
 -- `placement::cpu_level` meets its contract. Assumes nothing.
 use borrow.Author.Needs.{needs}
-use mathlib.Core.Path.{_≡_, refl, sym, ap, _∙_, subst}
+use mathlib.Core.Path.{sym, _∙_}
 use Prim.Native.Nat.{ℕ, _<_}
 use native.Mathlib.Omega.{arith}
 use lib.ListN.{length, getD}
-use Rattle.rules.specs.Machine.{taskPlaces}
 use Rattle.runqueue.specs.Table.{rowAt}
 use Rattle.runqueue.proofs.Flat.{count-is, rows-fit}
 use Rattle.placement.proofs.Order.{level-empty, level-first, first-in}

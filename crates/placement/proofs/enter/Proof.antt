@@ -1,24 +1,24 @@
 -- `placement::enter` meets its contract. Assumes nothing.
 use borrow.Author.Needs.{needs}
 use mathlib.Core.Path.{_≡_, refl, sym, ap, _∙_, subst}
-use mathlib.Core.Bool.{Bool, true}
-use mathlib.Core.List.{List, []}
+use mathlib.Core.Bool.{true}
+use mathlib.Core.List.{List}
 use Prim.Native.Nat.{ℕ, suc, _*_, _≤_, _<_}
 use native.Mathlib.Omega.{arith}
 use lib.Dec.{ltb}
-use lib.ListN.{length, getD, set, length-set}
+use lib.ListN.{length, getD, set}
 use Rattle.cpupri.specs.Level.{known}
 use Rattle.cpupri.specs.Record.{recordOf}
 use Rattle.cpupri.specs.declared.record.Record.{Record}
 use Rattle.cpupri.proofs.Whole.{level-known}
-use Rattle.rules.specs.Lists.{In, Falling}
+use Rattle.rules.specs.Lists.{Falling}
 use Rattle.rules.specs.Machine.{Machine, row, prioOf, flag, levels, levelOf, rowLevel, withRow, enqueue, queued, taskPlaces, highestPriority}
 use Rattle.rules.specs.Tables.{flatOf, rowCounts}
 use Rattle.rules.proofs.Lists.{length-insert}
 use Rattle.rules.proofs.Rows.{row-same}
 use Rattle.runqueue.specs.Table.{rowAt, rowsWith}
 use Rattle.runqueue.proofs.Flat.{rows-fit}
-use Rattle.placement.specs.Held.{InOrder, Held, Entering}
+use Rattle.placement.specs.Held.{Held, Entering}
 use Rattle.placement.proofs.Levels.{row-level-known}
 use Rattle.placement.proofs.Order.{holds, read-row, whole, cpus-counted, fine-queued, held-row, levels-set, above, level-first, first-in}
 use Rattle.placement.proofs.enter.Statement.{statement}

@@ -1,9 +1,9 @@
 -- `placement::leave` meets its contract. Assumes nothing.
 use borrow.Author.Needs.{needs}
-use mathlib.Core.Path.{_≡_, refl, sym, ap, _∙_, subst}
+use mathlib.Core.Path.{_≡_, sym, ap, _∙_, subst}
 use mathlib.Core.Bool.{true}
-use mathlib.Core.List.{List, []}
-use Prim.Native.Nat.{ℕ, _≤_, _<_}
+use mathlib.Core.List.{List}
+use Prim.Native.Nat.{ℕ}
 use native.Mathlib.Omega.{arith}
 use lib.ListN.{length, getD, set}
 use Rattle.cpupri.specs.Level.{known}
@@ -11,11 +11,11 @@ use Rattle.cpupri.specs.Record.{recordOf}
 use Rattle.cpupri.specs.declared.record.Record.{Record}
 use Rattle.cpupri.proofs.Whole.{level-known}
 use Rattle.rules.specs.Lists.{In, delete}
-use Rattle.rules.specs.Machine.{Machine, row, prioOf, flag, levels, rowLevel, dequeue, taskPlaces, highestPriority}
+use Rattle.rules.specs.Machine.{Machine, row, prioOf, flag, levels, rowLevel, dequeue}
 use Rattle.rules.specs.Tables.{flatOf, rowCounts}
 use Rattle.rules.proofs.Rows.{row-same}
 use Rattle.runqueue.specs.Table.{rowAt, rowsWith}
-use Rattle.placement.specs.Held.{InOrder, Held, Leaving}
+use Rattle.placement.specs.Held.{Held, Leaving}
 use Rattle.placement.proofs.Levels.{row-level-known}
 use Rattle.placement.proofs.Order.{holds, read-row, whole, cpus-counted, fine-delete, held-row, levels-set, above}
 use Rattle.placement.proofs.leave.Statement.{statement}

@@ -1,6 +1,5 @@
 -- `placement::relevel` meets its contract. Assumes nothing.
 use borrow.Author.Needs.{needs}
-use mathlib.Core.Path.{_≡_, refl, sym, ap, _∙_, subst}
 use Rattle.cpupri.proofs.Whole.{same-level}
 use Rattle.placement.proofs.relevel.Statement.{statement}
 use Rattle.placement.proofs.relevel.Tie as tie

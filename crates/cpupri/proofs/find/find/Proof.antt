@@ -1,15 +1,14 @@
 -- `cpupri::find::find` meets its contract: the tests on the way are the checks in their order. Assumes nothing.
 use borrow.Author.Needs.{needs}
 use mathlib.Core.Path.{_≡_, refl, sym, ap, _∙_}
-use mathlib.Core.Bool.{Bool, true, false, not, cond}
+use mathlib.Core.Bool.{Bool, not, cond}
 use Prim.Native.Nat.{ℕ}
-use native.Mathlib.Omega.{arith}
 use lib.Dec.{leb}
 use borrow.Author.Tests.{not-true, not-false, le-leb, lt-leb, leb-true}
 use Rattle.bits.proofs.Tests.{and-right}
 use Rattle.cpupri.specs.Level.{levelCount}
 use Rattle.cpupri.specs.Consistent.{consistent}
-use Rattle.cpupri.specs.Found.{Answer, unless, without, refusal, sizeFits, maskFits, findChecks, answerOf, lowestFound, found}
+use Rattle.cpupri.specs.Found.{Answer, unless, refusal, sizeFits, maskFits, findChecks, answerOf, lowestFound, found}
 use Rattle.cpupri.specs.declared.record.Record.{Record}
 use Rattle.cpupri.proofs.find.find.Statement.{statement}
 use Rattle.cpupri.proofs.find.find.Tie as tie

@@ -1,15 +1,15 @@
 -- `migration::pick::better` meets its contract. Assumes nothing.
 use borrow.Author.Needs.{needs}
 use mathlib.Core.Path.{_≡_, refl, sym, ap, _∙_, subst}
-use mathlib.Core.Bool.{Bool, true, false}
+use mathlib.Core.Bool.{Bool, false}
 use mathlib.Core.Logic.{_⊎_, inl, inr}
 use mathlib.Core.List.{List, [], _∷_, tail}
 use Prim.Native.Nat.{ℕ, suc, _+_, _-_, _*_, _≤_, _<_}
-use native.Mathlib.Nat.{not-suc-le-zero, le-of-suc-le-suc, suc-inj}
+use native.Mathlib.Nat.{not-suc-le-zero, le-of-suc-le-suc}
 use native.Mathlib.Omega.{arith}
 use lib.ListN.{length, getD, take, drop}
 use Rattle.rules.specs.Lists.{In}
-use Rattle.rules.specs.Machine.{Machine, prioOf, row, taskPlaces, highestPriority}
+use Rattle.rules.specs.Machine.{Machine, row}
 use Rattle.rules.proofs.Lists.{not-in-nil, in-getD}
 use Rattle.rules.proofs.Order.{place-lt, place-is}
 use Rattle.rules.specs.Lists.{place}
@@ -19,9 +19,8 @@ use Rattle.runqueue.proofs.Places.{ahead-before, ahead-le}
 use Rattle.runqueue.proofs.Flat.{rows-fit, place-at, as-counted}
 use Rattle.placement.proofs.Order.{above}
 use Rattle.migration.specs.Wanted.{wanted, Searchable}
-use Rattle.migration.specs.Foremost.{Looking, BestOf}
-use Rattle.migration.specs.declared.pick.Mover.{Mover}
-use Rattle.migration.proofs.Candidates.{length-tail, getD-tail, looking-held, looking-rows, looking-cpus, row-is, row-count, part-is-row, searchable, keep-best, new-best, higher}
+use Rattle.migration.specs.Foremost.{Looking}
+use Rattle.migration.proofs.Candidates.{length-tail, getD-tail, looking-held, looking-rows, looking-cpus, row-is, row-count, part-is-row, searchable, keep-best, new-best}
 use Rattle.migration.proofs.pick.better.Statement.{statement}
 use Rattle.migration.proofs.pick.better.Tie as tie
 

@@ -1,5 +1,4 @@
 -- `migration::scan::scan` meets its contract. The loop's invariant: no task passed is wanted. Assumes nothing.
-use borrow.Author.Needs.{needs}
 use mathlib.Core.Path.{_≡_, refl, sym, ap, _∙_, subst}
 use mathlib.Core.Bool.{Bool, true, false, _&&_}
 use mathlib.Core.List.{List, [], _∷_, tail}
@@ -11,11 +10,8 @@ use lib.Dec.{ltb, leb, eqb}
 use lib.ListN.{length, getD, take}
 use lib.Seq.{getD-take, length-take-le}
 use borrow.Author.Tests.{lt-ltb, le-ltb, eqb-true, eqb-false, leb-true, leb-false}
-use Rattle.cpupri.specs.Level.{levelOf}
-use Rattle.cpupri.specs.Found.{lowestLevel}
 use Rattle.bits.proofs.Tests.{and-both}
 use Rattle.rules.proofs.Lists.{falling-at}
-use Rattle.rules.specs.Lists.{Falling}
 use Rattle.runqueue.specs.Row.{ahead}
 use Rattle.runqueue.proofs.Places.{ahead-is}
 use Rattle.migration.specs.Wanted.{findable, wanted, Searchable}

@@ -1,15 +1,13 @@
 -- `migration::settle::migrate` meets its contract. Assumes nothing.
 use borrow.Author.Needs.{needs}
-use mathlib.Core.Path.{_≡_, refl, sym, ap, _∙_, subst}
-use mathlib.Core.List.{List, [], _∷_, tail}
-use mathlib.Core.Option.{some}
-use Prim.Native.Nat.{ℕ, _≤_, _<_}
+use mathlib.Core.Path.{_≡_, sym, ap, _∙_, subst}
+use mathlib.Core.List.{List}
+use Prim.Native.Nat.{ℕ, _<_}
 use native.Mathlib.Omega.{arith}
-use lib.ListN.{length, set, length-set}
 use Rattle.cpupri.specs.Record.{recordOf}
 use Rattle.cpupri.specs.declared.record.Record.{Record}
 use Rattle.rules.specs.Lists.{In, delete}
-use Rattle.rules.specs.Machine.{Machine, row, levels, dequeue, taskPlaces}
+use Rattle.rules.specs.Machine.{Machine, row, levels, dequeue}
 use Rattle.rules.specs.Migration.{Move, Chosen}
 use Rattle.rules.specs.Tables.{flatOf, rowCounts}
 use Rattle.rules.proofs.Apart.{runnable-fit, runnable-place}

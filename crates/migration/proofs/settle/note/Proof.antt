@@ -1,8 +1,7 @@
 -- `migration::settle::note` meets its contract. Assumes nothing.
 use borrow.Author.Needs.{needs}
-use mathlib.Core.Path.{_≡_, refl, sym, ap, _∙_, subst}
 use native.Mathlib.Omega.{arith}
-use lib.ListN.{length, set, length-set}
+use lib.ListN.{length-set}
 use Rattle.migration.proofs.settle.note.Statement.{statement}
 use Rattle.migration.proofs.settle.note.Tie as tie
 

@@ -1,26 +1,24 @@
 -- `migration::settle::settle` meets its contract. The loop's invariant: the tables hold the machine that the steps so far lead to, and the log
 -- has their entries; there are fewer than n. Assumes nothing.
-use borrow.Author.Needs.{needs}
 use mathlib.Core.Path.{_≡_, refl, sym, ap, _∙_, subst}
 use mathlib.Core.List.{List}
 use mathlib.Core.Option.{some}
-use Prim.Native.Nat.{ℕ, _+_, _-_, _*_, _≤_, _<_}
+use Prim.Native.Nat.{ℕ, _-_, _<_}
 use native.Mathlib.Nat.{pos-of-ne-zero}
 use native.Mathlib.Omega.{arith}
-use lib.ListN.{length, getD, set}
+use lib.ListN.{length, getD}
 use Rattle.bits.specs.Bit.{lowest}
 use Rattle.cpupri.specs.Level.{levelOf}
 use Rattle.cpupri.specs.Found.{allowedAt, lowestLevel}
 use Rattle.cpupri.specs.declared.record.Record.{Record}
 use Rattle.rules.specs.Machine.{Machine, taskPlaces}
-use Rattle.rules.specs.Migration.{Move, Chosen, settled}
+use Rattle.rules.specs.Migration.{Chosen}
 use Rattle.rules.specs.WellFormed.{WellFormed}
 use Rattle.rules.proofs.Choice.{chosen}
 use Rattle.rules.proofs.Step.{origin-small}
 use Rattle.rules.proofs.Apart.{runnable-place}
-use Rattle.placement.specs.Held.{Held}
 use Rattle.migration.specs.Foremost.{Looking, Foremost, BestOf}
-use Rattle.migration.specs.Settling.{Settling, Stepping, Ended}
+use Rattle.migration.specs.Settling.{Settling}
 use Rattle.migration.specs.declared.pick.Mover.{Mover}
 use Rattle.migration.proofs.Going.{Going, going-start, here, same-n, few, more-few, looking, going-end, going-found, going-high, going-next, going-on, going-cpus, going-rows, going-counts, going-log}
 use Rattle.migration.proofs.settle.settle.Statement.{statement}

@@ -1,16 +1,13 @@
 -- `runqueue::row::insert` meets its contract. Assumes nothing.
-use borrow.Author.Needs.{needs}
-use mathlib.Core.Path.{_≡_, refl, sym, ap, _∙_, subst}
-use Prim.Native.Nat.{ℕ, _≤_, _<_}
-use mathlib.Core.List.{List}
+use mathlib.Core.Path.{_≡_, sym, ap, _∙_, subst}
+use Prim.Native.Nat.{ℕ}
 use mathlib.Core.Bool.{Bool}
 use native.Mathlib.Omega.{arith}
 use lib.Dec.{ltb}
-use lib.ListN.{length, getD, set, take, length-set}
-use Rattle.rules.specs.Machine.{queued}
+use lib.ListN.{getD, set, take, length-set}
 use Rattle.rules.specs.Tables.{padded}
 use Rattle.rules.specs.Lists.{insertBefore}
-use Rattle.runqueue.specs.Row.{HoldsRow, Opened, ahead}
+use Rattle.runqueue.specs.Row.{Opened, ahead}
 use Rattle.runqueue.proofs.Queued.{row-size, at-most, opened-is}
 use Rattle.runqueue.proofs.row.insert.Statement.{statement}
 use Rattle.runqueue.proofs.row.insert.Tie as tie

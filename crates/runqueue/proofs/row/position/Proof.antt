@@ -1,5 +1,4 @@
 -- `runqueue::row::position` meets its contract. The loop's invariant: the task does not stand earlier. Assumes nothing.
-use borrow.Author.Needs.{needs}
 use mathlib.Core.Path.{_≡_, refl, sym, ap, _∙_}
 use Prim.Native.Nat.{ℕ, _-_, _≤_, _<_}
 use native.Mathlib.Omega.{arith}

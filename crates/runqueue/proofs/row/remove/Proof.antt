@@ -1,11 +1,9 @@
 -- `runqueue::row::remove` meets its contract. Assumes nothing.
 use borrow.Author.Needs.{needs}
-use mathlib.Core.Path.{_≡_, refl, sym, ap, _∙_, subst}
-use Prim.Native.Nat.{ℕ, _≤_, _<_}
-use mathlib.Core.List.{List}
+use mathlib.Core.Path.{subst}
+use Prim.Native.Nat.{ℕ}
 use native.Mathlib.Omega.{arith}
-use lib.ListN.{length, take}
-use Rattle.runqueue.specs.Row.{HoldsRow, Closed}
+use Rattle.runqueue.specs.Row.{Closed}
 use Rattle.runqueue.proofs.Queued.{row-size, place-below, closed-is}
 use Rattle.runqueue.proofs.row.remove.Statement.{statement}
 use Rattle.runqueue.proofs.row.remove.Tie as tie

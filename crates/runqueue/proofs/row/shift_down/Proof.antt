@@ -1,9 +1,8 @@
 -- `runqueue::row::shift_down` meets its contract. The loop's invariant: the places before i have moved. Assumes nothing.
-use borrow.Author.Needs.{needs}
-use mathlib.Core.Path.{_≡_, refl, sym, ap, _∙_}
-use Prim.Native.Nat.{ℕ, _-_, _≤_, _<_}
+use mathlib.Core.Path.{_∙_}
+use Prim.Native.Nat.{_-_, _≤_, _<_}
 use native.Mathlib.Omega.{arith}
-use lib.ListN.{length, length-set}
+use lib.ListN.{length-set}
 use Rattle.runqueue.proofs.Shift.{Down, down-start, down-step, down-end}
 use Rattle.runqueue.proofs.row.shift_down.Statement.{statement}
 use Rattle.runqueue.proofs.row.shift_down.Tie as tie

@@ -1,9 +1,6 @@
 -- `runqueue::row::shift_up` meets its contract. The loop's invariant: the places from i on have moved. Assumes nothing.
-use borrow.Author.Needs.{needs}
-use mathlib.Core.Path.{_≡_, refl, sym, ap, _∙_}
-use Prim.Native.Nat.{ℕ, _-_, _≤_, _<_}
+use Prim.Native.Nat.{_-_, _≤_}
 use native.Mathlib.Omega.{arith}
-use lib.ListN.{length, length-set}
 use Rattle.runqueue.proofs.Shift.{Up, up-start, up-step, up-end}
 use Rattle.runqueue.proofs.row.shift_up.Statement.{statement}
 use Rattle.runqueue.proofs.row.shift_up.Tie as tie

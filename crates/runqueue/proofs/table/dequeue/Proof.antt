@@ -1,14 +1,13 @@
 -- `runqueue::table::dequeue` meets its contract. Assumes nothing.
 use borrow.Author.Needs.{needs}
-use mathlib.Core.Path.{_≡_, refl, sym, ap, _∙_, subst}
-use Prim.Native.Nat.{ℕ, suc, _+_, _-_, _*_, _≤_, _<_}
-use mathlib.Core.List.{List, [], _++_}
+use mathlib.Core.Path.{_≡_, sym, ap, _∙_, subst}
+use Prim.Native.Nat.{ℕ, suc, _+_, _-_, _*_}
+use mathlib.Core.List.{List, _++_}
 use native.Mathlib.Omega.{arith}
 use lib.ListN.{length, getD, set, take, drop}
 use Rattle.rules.specs.Lists.{In, delete}
-use Rattle.rules.specs.Machine.{queued}
-use Rattle.rules.specs.Tables.{padded, flatOf, rowCounts}
-use Rattle.rules.proofs.Lists.{length-delete, length-insert}
+use Rattle.rules.specs.Tables.{padded, flatOf}
+use Rattle.rules.proofs.Lists.{length-delete}
 use Rattle.runqueue.specs.Row.{HoldsRow}
 use Rattle.runqueue.specs.Table.{rowAt, rowsWith}
 use Rattle.runqueue.proofs.Flat.{count-is, part-held, part-taken, rows-fit, rows-become, counts-become, as-counted}

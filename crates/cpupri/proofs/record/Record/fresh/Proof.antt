@@ -3,9 +3,8 @@
 use mathlib.Core.Path.{_≡_, refl, ap, _∙_, subst⁻¹}
 use Prim.Native.Nat.{ℕ, suc, _-_, _≤_}
 use native.Mathlib.Numerals.{add-one}
-use native.Mathlib.Nat.{le-antisymm}
 use native.Mathlib.Omega.{arith}
-use lib.ListN.{getD, set, replicate}
+use lib.ListN.{getD, set}
 use Rattle.cpupri.specs.Level.{idle, known, cpuPlaces}
 use Rattle.bits.specs.Bit.{packed, tally}
 use Rattle.cpupri.specs.Record.{table, maskAt, countAt, masksOf, countsOf, wordsOf, recordOf, freshLevels, Whole}
