@@ -1,0 +1,3 @@
+-- The laws of answers and of what each kind's own effect keeps.
+pub mod Answers
+pub mod Accepted
