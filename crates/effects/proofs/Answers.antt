@@ -8,12 +8,13 @@ use Prim.Native.Nat.{ℕ, zero, suc}
 use lib.Dec.{eqb}
 use lib.ListN.{length, getD, set}
 use borrow.Author.Tests.{eq-eqb, ne-eqb}
+use Rattle.cpupri.specs.declared.record.Record.{Record}
 use Rattle.rules.specs.Machine.{Machine, Task, write}
 use Rattle.rules.specs.WellFormed.{WellFormed}
 use Rattle.rules.specs.Events.{Event, Kind, effectOf}
 use Rattle.rules.specs.Refusals.{Check, firstFailing, checks}
 use Rattle.effects.specs.After.{after, ifAccepted, taskIn}
-use Rattle.effects.specs.Lent.{Columns, Sized}
+use Rattle.effects.specs.Lent.{Columns, Sized, Queues, Placed}
 
 -- ---- the first that fails
 
@@ -55,11 +56,19 @@ after-refused k e m h = go (firstFailing (checks m e k)) h
     go zero n = absurd (n refl)
     go (suc r) n = refl
 
+-- what holds of the machine that is left
+module _ (k : Kind) (e : Event) (m : Machine) (P : Machine → Type 0) where
+  pub done : firstFailing (checks m e k) ≡ 0 → P (effectOf k e m) → P (after k e m)
+  done h p = subst P (sym (after-done k e m h)) p
+
+  pub kept : firstFailing (checks m e k) ≢ 0 → P m → P (after k e m)
+  kept h p = subst P (sym (after-refused k e m h)) p
+
 -- ---- the six columns
 
 module _ (k : Kind) (e : Event) (m : Machine) {ss ps qs cs ls ks : List ℕ} (l : Columns m ss ps qs cs ls ks) where
   pub columns-kept : firstFailing (checks m e k) ≢ 0 → Columns (after k e m) ss ps qs cs ls ks
-  columns-kept h = subst (λ (x : Machine). Columns x ss ps qs cs ls ks) (sym (after-refused k e m h)) l
+  columns-kept h = kept k e m (λ (x : Machine). Columns x ss ps qs cs ls ks) h l
 
   pub columns-written : (t : ℕ) (τ : Task) → firstFailing (checks m e k) ≡ 0 → effectOf k e m ≡ write t τ m
       → Columns (after k e m) (set ss t (τ .state)) (set ps t (τ .policy)) (set qs t (τ .prio)) (set cs t (τ .cpu)) (set ls t (τ .slice)) (set ks t (τ .mask))
@@ -88,3 +97,11 @@ columns-sized m w l =
       slice = ap length (l .slice) ∙ w .shape .slice;
       mask = ap length (l .mask) ∙ w .shape .mask;
     }
+
+-- ---- run queues and levels
+
+pub moved : {m m′ : Machine} {flat ns : List ℕ} {r : Record} → m ≡ m′ → Placed m flat ns r → Placed m′ flat ns r
+moved {flat = flat} {ns = ns} {r = r} q p = subst (λ (x : Machine). Placed x flat ns r) q p
+
+pub queues-moved : {m m′ : Machine} {flat ns : List ℕ} → m ≡ m′ → Queues m flat ns → Queues m′ flat ns
+queues-moved {flat = flat} {ns = ns} q p = subst (λ (x : Machine). Queues x flat ns) q p

@@ -1,30 +1,29 @@
+-- `effects::wakeup::wake_cpu` meets its contract. Assumes nothing.
 use borrow.Author.Needs.{needs}
+use mathlib.Core.Path.{_≡_, refl, sym, ap, _∙_, subst}
+use mathlib.Core.Bool.{Bool, cond, not}
+use Prim.Native.Nat.{ℕ, _≤_}
+use native.Mathlib.Omega.{arith}
+use borrow.Author.Tests.{not-true}
+use Rattle.bits.specs.Bit.{bit, lowest}
+use Rattle.bits.proofs.Search.{first-le}
 use Rattle.effects.proofs.wakeup.wake_cpu.Statement.{statement}
 use Rattle.effects.proofs.wakeup.wake_cpu.Tie as tie
-use Rattle.effects.proofs.wakeup.wake_cpu.Reads as reads
-use Rattle.effects.proofs.wakeup.wake_cpu.Lts as lts
-use Rattle.bits.proofs.lowest_bit.Reads as lowest-bit-reads
-use Rattle.bits.proofs.test_bit.Reads as test-bit-reads
 
--- src/wakeup.rt:84:8
 test-bit-requires : tie.Need-test-bit-requires
 test-bit-requires c κs = search needs
 
--- src/wakeup.rt:85:9
 returns : tie.Need-returns
-returns c = ?
+returns c = let a = c .before .before .args in sym (ap (λ (b : Bool). cond b (a .cpu) (lowest 64 (a .mask))) (sym (c .before .test-bit .ensures) ∙ c .if1 .taken))
 
--- src/wakeup.rt:87:5
 lowest-bit-requires : tie.Need-lowest-bit-requires
 lowest-bit-requires c κs = search needs
 
--- src/wakeup.rt:87:5
 cast-result : tie.Need-cast-result
 cast-result c = search needs
 
--- src/wakeup.rt:80:1
 returns-2 : tie.Need-returns-2
-returns-2 c = ?
+returns-2 c = let a = c .before .before .before .args in c .lowest-bit .ensures ∙ sym (ap (λ (b : Bool). cond b (a .cpu) (lowest 64 (a .mask))) (sym (c .before .before .test-bit .ensures) ∙ c .before .if1 .left))
 
 pub wake-cpu-spec : {M : Type 1} → statement M
 wake-cpu-spec =
