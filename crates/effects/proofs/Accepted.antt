@@ -74,6 +74,37 @@ stoppable m e h =
     let p = accepted m e sleep h in
     (in-range taskPlaces (e .who) (p .0), is-state (taskOf m (e .who) .state) runnable (p .1 .0))
 
+pub record Reprioritisable (m : Machine) (e : Event) : Type 0 where
+  pub task : e .who < taskPlaces
+  pub used : taskOf m (e .who) .state ≢ free
+  pub prio : e .b ≤ highestPriority
+
+pub reprioritisable : (m : Machine) (e : Event) → firstFailing (checks m e set-priority) ≡ 0 → Reprioritisable m e
+reprioritisable m e h =
+    let p = accepted m e set-priority h in
+    record {
+      task = in-range taskPlaces (e .who) (p .0);
+      used = eqb-false (taskOf m (e .who) .state) free (p .1 .0);
+      prio = between lowestPriority (e .b) highestPriority (p .1 .1 .0) .1;
+    }
+
+pub record Reaffinable (m : Machine) (e : Event) : Type 0 where
+  pub task : e .who < taskPlaces
+  pub used : taskOf m (e .who) .state ≢ free
+  pub some : 0 < e .mask
+  pub fits : e .mask < 2 ^ m .n
+
+pub reaffinable : (m : Machine) (e : Event) → firstFailing (checks m e set-affinity) ≡ 0 → Reaffinable m e
+reaffinable m e h =
+    let p = accepted m e set-affinity h in
+    let k : (0 < e .mask) × (e .mask < 2 ^ m .n) = mask-good (e .mask) (m .n) (not-false (maskFits (m .n) (e .mask)) (p .1 .1 .0)) in
+    record {
+      task = in-range taskPlaces (e .who) (p .0);
+      used = eqb-false (taskOf m (e .who) .state) free (p .1 .0);
+      some = k .0;
+      fits = k .1;
+    }
+
 -- ---- masks
 
 -- the lowest bit of a 64-bit mask is the lowest-numbered allowed CPU

@@ -6,24 +6,25 @@ use mathlib.Core.Logic.{_≢_}
 use mathlib.Core.List.{List, [], _∷_}
 use Prim.Native.Nat.{ℕ, _≤_, _<_, _^_}
 use native.Mathlib.Omega.{arith}
+use lib.Dec.{eqb}
 use lib.ListN.{length, getD, set}
-use lib.Seq.{getD-set-other}
+use borrow.Author.Tests.{eq-eqb, ne-eqb}
 use Rattle.bits.specs.Bit.{bit, lowest}
 use Rattle.cpupri.specs.Record.{recordOf}
 use Rattle.cpupri.specs.declared.record.Record.{Record}
 use Rattle.rules.specs.Lists.{In}
 use Rattle.rules.specs.Machine.{Machine, Task, Column, taskOf, prioOf, row, flag, levels, rowLevel, store, enqueue, dequeue, lowestAllowed, asleep, runnable, taskPlaces, highestPriority}
 use Rattle.rules.specs.WellFormed.{WellFormed, Fit}
-use Rattle.rules.specs.Events.{wakeCpu, woken, slept}
+use Rattle.rules.specs.Events.{wakeCpu, woken, slept, reprioritised, reaffined}
 use Rattle.rules.proofs.Rows.{store-same}
-use Rattle.rules.proofs.Apart.{Apart, fit-of, runnable-fit, row-in, in-other}
+use Rattle.rules.proofs.Apart.{Apart, apart-idle, fit-of, runnable-fit, row-in}
 use Rattle.rules.proofs.Effects.{lowest-good, apart-home, apart-prio}
 use Rattle.rules.proofs.Room.{room-idle, room-left}
 use Rattle.placement.specs.Held.{Held, Leaving, Entering}
 use Rattle.placement.proofs.Order.{well-formed-order, apart-order}
 use Rattle.effects.specs.Lent.{Placed}
 use Rattle.effects.proofs.Accepted.{InState, lowest-allowed}
-use Rattle.effects.proofs.Steady.{levels-keep, row-level-cong}
+use Rattle.effects.proofs.Steady.{levels-apart}
 
 -- lent tables hold their machine
 pub held : (m : Machine) {qs flat ns : List ℕ} {r : Record} → WellFormed m → qs ≡ m .prio → Placed m flat ns r → Held m qs ns flat r
@@ -66,6 +67,11 @@ module _ (m : Machine) (t : ℕ) (w : WellFormed m) (s : InState asleep m t) whe
         let g : Held (enqueue t (wakeCpu m t) m) qs ns flat r = subst (λ (x : ℕ). Held (enqueue t x m) qs ns flat r) is h in
         record { rows = g .rows; counts = g .counts; levels = g .levels }
 
+-- ---- a task that is not runnable gets another priority
+
+pub placed-idle : (m : Machine) (t v : ℕ) {flat ns : List ℕ} {r : Record} → WellFormed m → taskOf m t .state ≢ runnable → Placed m flat ns r → Placed (store Column.prio t v m) flat ns r
+placed-idle m t v w n p = record { rows = p .rows; counts = p .counts; levels = p .levels ∙ ap recordOf (sym (levels-apart t m (apart-idle t m w n) v)) }
+
 -- ---- a runnable task leaves its row
 
 module _ (m : Machine) (t : ℕ) (w : WellFormed m) (s : InState runnable m t) where
@@ -101,12 +107,6 @@ module _ (m : Machine) (t : ℕ) (w : WellFormed m) (s : InState runnable m t) w
         apart : Apart t (dequeue t (taskOf m t .cpu) m)
         apart = apart-home t m w (s .0) (s .1)
 
-        levels-changed : levels changed ≡ levels (dequeue t (taskOf m t .cpu) m)
-        levels-changed =
-            levels-keep (dequeue t (taskOf m t .cpu) m) changed (w .shape .some-cpu) (w .shape .cpus) refl
-            (λ d h. row-level-cong (prioOf changed) (prioOf m) (flag m d) (row (dequeue t (taskOf m t .cpu) m) d)
-            (λ u i. getD-set-other (m .prio) t u v 0 (in-other t (dequeue t (taskOf m t .cpu) m) apart d u i)))
-
         pub entering-prio : Entering changed (set qs t v) ns flat r t c
         entering-prio =
             record {
@@ -115,7 +115,7 @@ module _ (m : Machine) (t : ℕ) (w : WellFormed m) (s : InState runnable m t) w
                 prio = ap (λ (l : List ℕ). set l t v) (left-home .prio);
                 counts = left-home .counts;
                 rows = left-home .rows;
-                levels = left-home .levels ∙ ap recordOf (sym levels-changed);
+                levels = left-home .levels ∙ ap recordOf (sym (levels-apart t (dequeue t (taskOf m t .cpu) m) apart v));
               };
               cpu = small;
               task = s .0;
@@ -145,3 +145,44 @@ module _ (m : Machine) (t : ℕ) (w : WellFormed m) (s : InState runnable m t) w
             let g : Held (enqueue t (lowestAllowed m k) (dequeue t (taskOf m t .cpu) m)) qs′ ns′ flat′ r′ =
             subst (λ (x : ℕ). Held (enqueue t x (dequeue t (taskOf m t .cpu) m)) qs′ ns′ flat′ r′) low h in
             record { rows = g .rows; counts = g .counts; levels = g .levels }
+
+-- ---- which case of kinds 5 and 6 applies
+
+module _ (m : Machine) (t v : ℕ) where
+  pub reprioritised-idle : taskOf m t .state ≢ runnable → reprioritised t v m ≡ store Column.prio t v m
+  reprioritised-idle n =
+      ap (λ (b : Bool). cond b (cond (eqb (taskOf m t .prio) v) m (enqueue t (taskOf m t .cpu) (store Column.prio t v (dequeue t (taskOf m t .cpu) m)))) (store Column.prio t v m))
+      (ne-eqb (taskOf m t .state) runnable n)
+
+  module _ (s : taskOf m t .state ≡ runnable) where
+    reprioritised-runs : reprioritised t v m ≡ cond (eqb (taskOf m t .prio) v) m (enqueue t (taskOf m t .cpu) (store Column.prio t v (dequeue t (taskOf m t .cpu) m)))
+    reprioritised-runs =
+        ap (λ (b : Bool). cond b (cond (eqb (taskOf m t .prio) v) m (enqueue t (taskOf m t .cpu) (store Column.prio t v (dequeue t (taskOf m t .cpu) m)))) (store Column.prio t v m))
+        (eq-eqb (taskOf m t .state) runnable s)
+
+    pub reprioritised-same : taskOf m t .prio ≡ v → reprioritised t v m ≡ m
+    reprioritised-same e =
+        reprioritised-runs ∙ ap (λ (b : Bool). cond b m (enqueue t (taskOf m t .cpu) (store Column.prio t v (dequeue t (taskOf m t .cpu) m)))) (eq-eqb (taskOf m t .prio) v e)
+
+    pub reprioritised-moved : taskOf m t .prio ≢ v → reprioritised t v m ≡ enqueue t (taskOf m t .cpu) (store Column.prio t v (dequeue t (taskOf m t .cpu) m))
+    reprioritised-moved n =
+        reprioritised-runs ∙ ap (λ (b : Bool). cond b m (enqueue t (taskOf m t .cpu) (store Column.prio t v (dequeue t (taskOf m t .cpu) m)))) (ne-eqb (taskOf m t .prio) v n)
+
+module _ (m : Machine) (t k : ℕ) where
+  abbrev away : Machine
+  away = enqueue t (lowestAllowed m k) (store Column.mask t k (dequeue t (taskOf m t .cpu) m))
+
+  pub reaffined-idle : taskOf m t .state ≢ runnable → reaffined t k m ≡ store Column.mask t k m
+  reaffined-idle n =
+      ap (λ (b : Bool). cond b (cond (bit k (taskOf m t .cpu)) (store Column.mask t k m) away) (store Column.mask t k m)) (ne-eqb (taskOf m t .state) runnable n)
+
+  module _ (s : taskOf m t .state ≡ runnable) where
+    reaffined-runs : reaffined t k m ≡ cond (bit k (taskOf m t .cpu)) (store Column.mask t k m) away
+    reaffined-runs =
+        ap (λ (b : Bool). cond b (cond (bit k (taskOf m t .cpu)) (store Column.mask t k m) away) (store Column.mask t k m)) (eq-eqb (taskOf m t .state) runnable s)
+
+    pub reaffined-same : bit k (taskOf m t .cpu) ≡ true → reaffined t k m ≡ store Column.mask t k m
+    reaffined-same e = reaffined-runs ∙ ap (λ (b : Bool). cond b (store Column.mask t k m) away) e
+
+    pub reaffined-moved : bit k (taskOf m t .cpu) ≡ false → reaffined t k m ≡ away
+    reaffined-moved e = reaffined-runs ∙ ap (λ (b : Bool). cond b (store Column.mask t k m) away) e

@@ -7,9 +7,11 @@ use mathlib.Core.List.{List, [], _∷_}
 use Prim.Native.Nat.{ℕ, zero, suc, _≤_, _<_}
 use native.Mathlib.Omega.{arith}
 use lib.ListN.{getD, set}
+use lib.Seq.{getD-set-other}
 use Rattle.rules.specs.Lists.{In}
-use Rattle.rules.specs.Machine.{Machine, level, levels, rowLevel, levelOf, cpuPlaces}
+use Rattle.rules.specs.Machine.{Machine, Column, prioOf, row, flag, store, level, levels, rowLevel, levelOf, cpuPlaces}
 use Rattle.rules.proofs.Lists.{in-here}
+use Rattle.rules.proofs.Apart.{Apart, in-other}
 use Rattle.rules.proofs.Record.{levels-below}
 use Rattle.placement.proofs.Levels.{levels-change}
 
@@ -29,3 +31,9 @@ levels-keep m m′ some small same stays =
 pub row-level-cong : (p q : ℕ → ℕ) (f : ℕ) (r : List ℕ) → ((u : ℕ) → In u r → p u ≡ q u) → rowLevel p f r ≡ rowLevel q f r
 row-level-cong p q f [] h = refl
 row-level-cong p q f (u ∷ us) h = ap levelOf (h u (in-here u us))
+
+-- a task that stands in no row gets another priority
+pub levels-apart : (t : ℕ) (m : Machine) → Apart t m → (v : ℕ) → levels (store Column.prio t v m) ≡ levels m
+levels-apart t m a v =
+    levels-keep m (store Column.prio t v m) (a .shape .some-cpu) (a .shape .cpus) refl
+    (λ d h. row-level-cong (prioOf (store Column.prio t v m)) (prioOf m) (flag m d) (row m d) (λ u i. getD-set-other (m .prio) t u v 0 (in-other t m a d u i)))

@@ -99,7 +99,7 @@ pub fn changeable_mask(n: usize, state: &[u8], who: u32, k: u64) -> u8
 fn is_policy(a: u32) -> bool
     ensures { λ r. ⌜ r ≡ (eqb a fifo || eqb a rr) ⌝ }
 {
-    (a == task::FIFO) | (a == task::RR)
+    (a == task::FIFO as u32) | (a == task::RR as u32)
 }
 
 fn is_priority(b: u32) -> bool

@@ -13,9 +13,9 @@ pub const ASLEEP: u8 = 1;
 pub const RUNNABLE: u8 = 2;
 
 // policies: SCHED_FIFO, SCHED_RR
-pub const FIFO: u32 = 1;
+pub const FIFO: u8 = 1;
 
-pub const RR: u32 = 2;
+pub const RR: u8 = 2;
 
 // a full time slice, in ticks
 pub const FULL_SLICE: u16 = 100;
