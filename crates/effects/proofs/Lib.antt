@@ -3,3 +3,5 @@ pub mod Answers
 pub mod Accepted
 pub mod Steady
 pub mod Placing
+pub mod Requeueing
+pub mod Ticking

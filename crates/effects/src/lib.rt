@@ -3,6 +3,8 @@
 pub mod answer;
 pub mod change;
 pub mod check;
+pub mod current;
 pub mod lifecycle;
+pub mod ordinary;
 pub mod task;
 pub mod wakeup;
