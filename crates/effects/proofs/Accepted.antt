@@ -30,6 +30,7 @@ accepted m e set-ordinary h = passes (checks m e set-ordinary) (omega arith) h
 
 pub record Addable (m : Machine) (e : Event) : Type 0 where
   pub task : e .who < taskPlaces
+  pub state : taskOf m (e .who) .state ≡ free
   pub policy : e .a ≤ rr
   pub prio : e .b ≤ highestPriority
   pub some : 0 < e .mask
@@ -39,6 +40,7 @@ pub addable : (m : Machine) (e : Event) → firstFailing (checks m e add) ≡ 0 
 addable m e h =
     record {
       task = in-range taskPlaces (e .who) (p .0);
+      state = is-state (taskOf m (e .who) .state) free (p .1 .0);
       policy = policies (one-of (e .a) fifo rr (p .1 .1 .0));
       prio = between lowestPriority (e .b) highestPriority (p .1 .1 .1 .0) .1;
       some = mask .0;

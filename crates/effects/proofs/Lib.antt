@@ -5,3 +5,4 @@ pub mod Steady
 pub mod Placing
 pub mod Requeueing
 pub mod Ticking
+pub mod Dispatching

@@ -6,8 +6,8 @@ use Prim.Native.Nat.{ℕ, zero, suc}
 use lib.Dec.{eqb, leb}
 use lib.ListN.{getD}
 use Rattle.rules.specs.Machine.{Machine, taskPlaces}
-use Rattle.rules.specs.Events.{Event, Kind, effectOf}
-use Rattle.rules.specs.Refusals.{Check, firstFailing, checks, badNumber, wrongState}
+use Rattle.rules.specs.Events.{Event, Kind, effectOf, effect}
+use Rattle.rules.specs.Refusals.{Check, firstFailing, checks, refusal, badNumber, wrongState}
 
 -- an event, by its five numbers
 abbrev pub event : ℕ → ℕ → ℕ → ℕ → ℕ → Event
@@ -20,6 +20,10 @@ ifAccepted (suc r) done m = m
 
 unfoldable pub after : Kind → Event → Machine → Machine
 after k e m = ifAccepted (firstFailing (checks m e k)) (effectOf k e m) m
+
+-- the same of an event of any kind; one that is none is refused
+unfoldable pub applied : Event → Machine → Machine
+applied e m = ifAccepted (refusal m e) (effect e m) m
 
 -- the checks of kinds 2 to 4, which differ in the state s that they want, over the states ss
 abbrev pub taskIn : ℕ → List ℕ → ℕ → List Check

@@ -3,6 +3,9 @@ use cpupri::record::Record;
 
 pub const ACCEPTED: u8 = 0;
 
+// kind not 1 to 9
+pub const UNKNOWN_KIND: u8 = 3;
+
 // task number 512 or more, CPU number N or more
 pub const BAD_NUMBER: u8 = 4;
 

@@ -3,11 +3,11 @@ ghost use Prim.Native.Nat.{ℕ};
 ghost use Rattle.rules.specs.Machine.{Machine};
 ghost use Rattle.effects.specs.After.{event};
 ghost use Rattle.effects.specs.Lent.{LentPriority, Reprioritised, LentAffinity, Reaffined};
-use cpupri::record::Record;
 use super::answer;
 use super::answer::Applied;
 use super::check;
 use super::task;
+use cpupri::record::Record;
 
 // Asleep: the number only. Runnable and unchanged: nothing. Runnable and changed: the task leaves its
 // row and enters it again.

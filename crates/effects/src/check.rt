@@ -10,10 +10,10 @@ ghost use Rattle.rules.specs.Machine.{Machine, taskPlaces, fifo, rr, lowestPrio
 ghost use Rattle.rules.specs.Events.{add, set-priority, set-affinity};
 ghost use Rattle.rules.specs.Refusals.{firstFailing, checks};
 ghost use Rattle.effects.specs.After.{event, taskIn};
-use cpupri::find::mask_fits;
-use runqueue::row::PLACES;
 use super::answer;
 use super::task;
+use cpupri::find::mask_fits;
+use runqueue::row::PLACES;
 
 const LOWEST_PRIORITY: u32 = 1;
 

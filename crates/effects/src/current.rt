@@ -4,10 +4,10 @@ ghost use Prim.Native.Nat.{ℕ};
 ghost use Rattle.rules.specs.Machine.{Machine, requeue as requeued};
 ghost use Rattle.effects.specs.After.{event};
 ghost use Rattle.effects.specs.Lent.{LentTick, Ticked, LentYield, Yielded, Running, Queues};
-use runqueue::row::PLACES;
-use runqueue::table;
 use super::answer;
 use super::task;
+use runqueue::row::PLACES;
+use runqueue::table;
 
 // An RR task has a tick less; at 0 its slice is full again and it goes behind its equals. Nothing
 // happens to a FIFO task or to an empty row.

@@ -3,10 +3,10 @@ ghost use Prim.Native.Nat.{ℕ};
 ghost use Rattle.rules.specs.Machine.{Machine};
 ghost use Rattle.effects.specs.After.{event};
 ghost use Rattle.effects.specs.Lent.{LentOrdinary, Flagged};
-use cpupri::level::Level;
-use cpupri::record::Record;
 use super::answer;
 use super::answer::Applied;
+use cpupri::level::Level;
+use cpupri::record::Record;
 
 // The flag is b. It is the level of a CPU that runs no task.
 pub fn set_ordinary(

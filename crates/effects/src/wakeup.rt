@@ -7,11 +7,11 @@ ghost use Rattle.cpupri.specs.Level.{cpuPlaces};
 ghost use Rattle.rules.specs.Machine.{Machine};
 ghost use Rattle.effects.specs.After.{event};
 ghost use Rattle.effects.specs.Lent.{LentWake, Woken, LentSleep, Slept};
-use cpupri::record::Record;
 use super::answer;
 use super::answer::Applied;
 use super::check;
 use super::task;
+use cpupri::record::Record;
 
 // A sleeper becomes runnable, and enters the row of its CPU or, if that is not allowed, of the
 // lowest-numbered allowed one, which becomes its CPU. Its slice is kept.

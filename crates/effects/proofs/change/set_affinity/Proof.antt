@@ -75,7 +75,7 @@ returns-2 c =
       answer = sym z ∙ e;
       mask = ap (λ (xs : List ℕ). set xs who k) (l .mask) ∙ ap (λ (x : Machine). x .mask) q;
       cpu = l .cpu ∙ ap (λ (x : Machine). x .cpu) q;
-      placed = moved q (placed-masked m who k (l .placed))
+      placed = moved q (placed-masked m who k (l .placed));
     }
 
 slice-read-home : tie.Need-slice-read-home
@@ -104,7 +104,7 @@ returns-3 c =
       answer = sym z ∙ e;
       mask = ap (λ (xs : List ℕ). set xs who k) (l .mask) ∙ ap (λ (x : Machine). x .mask) q;
       cpu = l .cpu ∙ ap (λ (x : Machine). x .cpu) q;
-      placed = moved q (placed-masked m who k (l .placed))
+      placed = moved q (placed-masked m who k (l .placed));
     }
 
 cast-leave : tie.Need-cast-leave
@@ -172,7 +172,7 @@ returns-4 c =
       answer = sym z ∙ e;
       mask = ap (λ (xs : List ℕ). set xs who k) (l .mask) ∙ ap (λ (x : Machine). x .mask) q;
       cpu = c .before .before .before .before .before .before .enter .ensures .1 ∙ ap (λ (xs : List ℕ). set xs who target) (l .cpu) ∙ ap (set (m .cpu) who) low ∙ ap (λ (x : Machine). x .cpu) q;
-      placed = moved q (placed-mask m who (l .formed) s _ is left k target (g .some) (g .fits) low entered)
+      placed = moved q (placed-mask m who (l .formed) s _ is left k target (g .some) (g .fits) low entered);
     }
 
 pub set-affinity-spec : {M : Type 1} → statement M

@@ -65,7 +65,7 @@ returns-2 c =
       answer = sym z ∙ e;
       prio = ap (λ (xs : List ℕ). set xs who b) (l .prio) ∙ ap (λ (x : Machine). x .prio) q;
       cpu = l .cpu ∙ ap (λ (x : Machine). x .cpu) q;
-      placed = moved q (placed-idle m who b (l .formed) n (l .placed))
+      placed = moved q (placed-idle m who b (l .formed) n (l .placed));
     }
 
 slice-read-if3 : tie.Need-slice-read-if3
@@ -85,7 +85,7 @@ returns-3 c =
       answer = sym z ∙ e;
       prio = l .prio ∙ ap (λ (x : Machine). x .prio) q;
       cpu = l .cpu ∙ ap (λ (x : Machine). x .cpu) q;
-      placed = moved q (l .placed)
+      placed = moved q (l .placed);
     }
 
 slice-read-home : tie.Need-slice-read-home
@@ -153,7 +153,7 @@ returns-4 c =
       answer = sym z ∙ e;
       prio = ap (λ (xs : List ℕ). set xs who b) (l .prio) ∙ ap (λ (x : Machine). x .prio) q;
       cpu = c .before .before .before .before .before .before .enter .ensures .1 ∙ ap (λ (xs : List ℕ). set xs who (getD xs who 0)) (l .cpu) ∙ ap (λ (x : Machine). x .cpu) q;
-      placed = moved q (placed-prio m who (l .formed) s _ is left b hi entered)
+      placed = moved q (placed-prio m who (l .formed) s _ is left b hi entered);
     }
 
 pub set-priority-spec : {M : Type 1} → statement M

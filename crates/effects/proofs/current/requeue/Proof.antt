@@ -20,7 +20,7 @@ dequeue-requires c κs =
       queues-hold m (l .formed) (l .prio) (l .queues),
       (
         omega (arith, queues-counted m (l .formed) (l .prio) (l .queues), l .cpu),
-        subst (In (a .args .task)) (sym (read-row m _ _ _ _ (queues-held m (l .formed) (l .prio) (l .queues)) (a .args .cpu))) (l .stands)
+        subst (In (a .args .task)) (sym (read-row m _ _ _ _ (queues-held m (l .formed) (l .prio) (l .queues)) (a .args .cpu))) (l .stands),
       ),
     )
 

@@ -125,7 +125,7 @@ returns-4 c =
     record {
       answer = e;
       slice = ap (λ (xs : List ℕ). set xs t (getD xs t 0 - 1)) (l .slice) ∙ ap (λ (x : Machine). x .slice) q;
-      queues = queues-moved q (record { rows = l .queues .rows; counts = l .queues .counts })
+      queues = queues-moved q (record { rows = l .queues .rows; counts = l .queues .counts });
     }
 
 requeue-requires : tie.Need-requeue-requires
@@ -160,7 +160,7 @@ returns-5 c =
     record {
       answer = e;
       slice = ap (λ (xs : List ℕ). set xs t fullSlice) (l .slice) ∙ ap (λ (x : Machine). x .slice) q;
-      queues = queues-moved q (record { rows = r .rows; counts = r .counts })
+      queues = queues-moved q (record { rows = r .rows; counts = r .counts });
     }
 
 pub tick-spec : {M : Type 1} → statement M

@@ -69,13 +69,13 @@ returns-2 c =
     let v = c .before .before .before .before .before .before .before .before .before .before .before .before .before .before .before .before .before .before .before .lowest-bit .result in
     let low = lowest-allowed m (a .args .k) (l .formed .shape .cpus) (g .some) (g .fits) in
     let w =
-        columns-written add (event kind (a .args .who) (a .args .a) (a .args .b) (a .args .k)) m (l .columns) (a .args .who)
-        (record { state = asleep; policy = a .args .a; prio = a .args .b; cpu = v; slice = fullSlice; mask = a .args .k }) h
-        (ap (λ (d : ℕ). write (a .args .who) (record { state = asleep; policy = a .args .a; prio = a .args .b; cpu = d; slice = fullSlice; mask = a .args .k }) m) (sym (c .before .before .before .before .before .before .before .before .before .before .before .before .before .before .before .before .before .before .before .lowest-bit .ensures ∙ low))) in
+    columns-written add (event kind (a .args .who) (a .args .a) (a .args .b) (a .args .k)) m (l .columns) (a .args .who)
+    (record { state = asleep; policy = a .args .a; prio = a .args .b; cpu = v; slice = fullSlice; mask = a .args .k }) h
+    (ap (λ (d : ℕ). write (a .args .who) (record { state = asleep; policy = a .args .a; prio = a .args .b; cpu = d; slice = fullSlice; mask = a .args .k }) m) (sym (c .before .before .before .before .before .before .before .before .before .before .before .before .before .before .before .before .before .before .before .lowest-bit .ensures ∙ low))) in
     let s = c .before .before .before .before .before .before .before .before .before .before .before .before .write .ensures in
     record {
       answer = sym (c .before .before .before .before .before .before .before .before .before .before .before .before .before .before .before .before .before .before .before .before .if1 .left) ∙ e;
-      columns = record { state = s .0 ∙ w .state; policy = s .1 .0 ∙ w .policy; prio = s .1 .1 .0 ∙ w .prio; cpu = s .1 .1 .1 .0 ∙ w .cpu; slice = s .1 .1 .1 .1 .0 ∙ w .slice; mask = s .1 .1 .1 .1 .1 ∙ w .mask }
+      columns = record { state = s .0 ∙ w .state; policy = s .1 .0 ∙ w .policy; prio = s .1 .1 .0 ∙ w .prio; cpu = s .1 .1 .1 .0 ∙ w .cpu; slice = s .1 .1 .1 .1 .0 ∙ w .slice; mask = s .1 .1 .1 .1 .1 ∙ w .mask };
     }
 
 pub add-spec : {M : Type 1} → statement M

@@ -52,7 +52,7 @@ returns-2 c =
     let s = c .before .before .before .before .before .before .before .before .before .before .before .before .write .ensures in
     record {
       answer = sym (c .before .before .before .before .before .before .before .before .before .before .before .before .before .before .before .before .before .before .before .if1 .left) ∙ e;
-      columns = record { state = s .0 ∙ w .state; policy = s .1 .0 ∙ w .policy; prio = s .1 .1 .0 ∙ w .prio; cpu = s .1 .1 .1 .0 ∙ w .cpu; slice = s .1 .1 .1 .1 .0 ∙ w .slice; mask = s .1 .1 .1 .1 .1 ∙ w .mask }
+      columns = record { state = s .0 ∙ w .state; policy = s .1 .0 ∙ w .policy; prio = s .1 .1 .0 ∙ w .prio; cpu = s .1 .1 .1 .0 ∙ w .cpu; slice = s .1 .1 .1 .1 .0 ∙ w .slice; mask = s .1 .1 .1 .1 .1 ∙ w .mask };
     }
 
 pub remove-spec : {M : Type 1} → statement M

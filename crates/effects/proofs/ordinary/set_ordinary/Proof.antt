@@ -84,7 +84,7 @@ returns-3 c =
     record {
       answer = e;
       flags = ap (λ (xs : List ℕ). set xs who b) (l .flags) ∙ ap (λ (x : Machine). x .flags) q;
-      levels = l .levels ∙ ap recordOf (sym busy) ∙ ap (λ (x : Machine). recordOf (levels x)) q
+      levels = l .levels ∙ ap recordOf (sym busy) ∙ ap (λ (x : Machine). recordOf (levels x)) q;
     }
 
 set-level-requires : tie.Need-set-level-requires
@@ -108,7 +108,7 @@ returns-4 c =
     record {
       answer = e;
       flags = ap (λ (xs : List ℕ). set xs who b) (l .flags) ∙ ap (λ (x : Machine). x .flags) q;
-      levels = c .set-level .ensures ∙ ap (λ (xs : List ℕ). recordOf (set xs who b)) (levels-are l) ∙ ap recordOf (sym idle) ∙ ap (λ (x : Machine). recordOf (levels x)) q
+      levels = c .set-level .ensures ∙ ap (λ (xs : List ℕ). recordOf (set xs who b)) (levels-are l) ∙ ap recordOf (sym idle) ∙ ap (λ (x : Machine). recordOf (levels x)) q;
     }
 
 pub set-ordinary-spec : {M : Type 1} → statement M

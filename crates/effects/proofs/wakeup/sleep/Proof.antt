@@ -76,7 +76,7 @@ returns-2 c =
     record {
       answer = sym z ∙ answer-of 2 who (l .state) _ e;
       state = ap (λ (xs : List ℕ). set xs who 1) (l .state) ∙ ap (λ (x : Machine). x .state) q;
-      placed = moved q (placed-sleep m who (l .formed) s _ is (c .before .before .before .before .leave .ensures m (leaving m who (l .formed) s _ is (l .prio) (l .flags) (l .placed))))
+      placed = moved q (placed-sleep m who (l .formed) s _ is (c .before .before .before .before .leave .ensures m (leaving m who (l .formed) s _ is (l .prio) (l .flags) (l .placed))));
     }
 
 pub sleep-spec : {M : Type 1} → statement M

@@ -51,7 +51,7 @@ returns c =
       answer = e;
       state = l .state ∙ ap (λ (x : Machine). x .state) q;
       cpu = l .cpu ∙ ap (λ (x : Machine). x .cpu) q;
-      placed = moved q (l .placed)
+      placed = moved q (l .placed);
     }
 
 slice-read-wake-cpu : tie.Need-slice-read-wake-cpu
@@ -81,7 +81,7 @@ enter-requires c κs =
     let l = a .pre .1 in (
       (
         a .pre .0,
-        entering-wake (a .pre .0) (a .args .who) (l .formed) (sleeper (c .before .before .before .before .before .before .before .before .before .before .before .before .before .before .before .pre .1) (c .before .before .before .before .before .before .before .before .before .before .before .before .before .before .before .args .who) _ (c .before .before .before .before .before .before .before .in-state .ensures) (c .before .before .before .before .before .before .if1 .left)) _ (target-is (c .before .before .before .before .before .before .before .before .before .before .before .before .before .before .before .pre .1) (c .before .before .before .before .before .before .before .before .before .before .before .before .before .before .before .args .who) _ (c .before .before .before .before .before .before .before .in-state .ensures) (c .before .before .before .before .before .before .if1 .left) _ (c .before .before .before .wake-cpu .ensures)) (l .prio) (l .placed)
+        entering-wake (a .pre .0) (a .args .who) (l .formed) (sleeper (c .before .before .before .before .before .before .before .before .before .before .before .before .before .before .before .pre .1) (c .before .before .before .before .before .before .before .before .before .before .before .before .before .before .before .args .who) _ (c .before .before .before .before .before .before .before .in-state .ensures) (c .before .before .before .before .before .before .if1 .left)) _ (target-is (c .before .before .before .before .before .before .before .before .before .before .before .before .before .before .before .pre .1) (c .before .before .before .before .before .before .before .before .before .before .before .before .before .before .before .args .who) _ (c .before .before .before .before .before .before .before .in-state .ensures) (c .before .before .before .before .before .before .if1 .left) _ (c .before .before .before .wake-cpu .ensures)) (l .prio) (l .placed),
       ),
       ap length (l .cpu) ∙ l .formed .shape .cpu,
     )
@@ -112,7 +112,7 @@ returns-2 c =
       answer = sym z ∙ answer-of 1 who (l .state) _ e;
       state = ap (λ (xs : List ℕ). set xs who 2) (l .state) ∙ ap (λ (x : Machine). x .state) q;
       cpu = c .before .before .before .before .before .before .enter .ensures .1 ∙ ap (λ (xs : List ℕ). set xs who target) (l .cpu) ∙ ap (set (m .cpu) who) is ∙ ap (λ (x : Machine). x .cpu) q;
-      placed = moved q (placed-wake m who (l .formed) s target is (c .before .before .before .before .before .before .enter .ensures .0 m (entering-wake m who (l .formed) s target is (l .prio) (l .placed))))
+      placed = moved q (placed-wake m who (l .formed) s target is (c .before .before .before .before .before .before .enter .ensures .0 m (entering-wake m who (l .formed) s target is (l .prio) (l .placed))));
     }
 
 pub wake-spec : {M : Type 1} → statement M
