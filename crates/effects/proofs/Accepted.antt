@@ -1,11 +1,11 @@
 -- What an accepted event's checks say, and the CPU that a mask gives.
 -- Assumes nothing.
-use mathlib.Core.Path.{_≡_, refl, sym, ap, _∙_, subst}
-use mathlib.Core.Bool.{Bool, true, false, cond}
+use mathlib.Core.Path.{_≡_}
+use mathlib.Core.Bool.{true}
 use mathlib.Core.Logic.{_≢_, _⊎_, inl, inr}
 use Prim.Native.Nat.{ℕ, _≤_, _<_, _^_}
 use native.Mathlib.Omega.{arith}
-use borrow.Author.Tests.{eqb-false, leb-true, not-false}
+use borrow.Author.Tests.{eqb-false, not-false}
 use Rattle.bits.specs.Bit.{bit, first, lowest}
 use Rattle.bits.proofs.Search.{lowest-is, first-before}
 use Rattle.cpupri.specs.Found.{maskFits}
@@ -110,7 +110,7 @@ reaffinable m e h =
 -- ---- masks
 
 -- the lowest bit of a 64-bit mask is the lowest-numbered allowed CPU
-pub lowest-allowed : (m : Machine) (k : ℕ) → m .n ≤ cpuPlaces → 0 < k → k < 2 ^ m .n → lowest 64 k ≡ lowestAllowed m k
+pub lowest-allowed : (m : Machine) (k : ℕ) → m .n ≤ cpuPlaces → 0 < k → k < 2 ^ m .n → lowest cpuPlaces k ≡ lowestAllowed m k
 lowest-allowed m k small some fits =
     let good : (first (bit k) (m .n) < m .n) × (bit k (first (bit k) (m .n)) ≡ true) = lowest-good k (m .n) some fits in
     lowest-is 64 k (first (bit k) (m .n)) (omega arith) (good .1) (first-before (bit k) (m .n))

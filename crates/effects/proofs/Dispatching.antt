@@ -6,16 +6,15 @@ use mathlib.Core.Bool.{Bool, true, false, cond}
 use mathlib.Core.Logic.{_≢_, _⊎_, inl, inr}
 use mathlib.Core.List.{List, [], _∷_}
 use mathlib.Core.Option.{Option, none, some}
-use Prim.Native.Nat.{ℕ, zero, suc, _-_, _≤_, _<_}
+use Prim.Native.Nat.{ℕ, zero, suc, _-_, _<_}
 use native.Mathlib.Omega.{arith}
 use lib.Dec.{eqb}
-use lib.ListN.{length}
 use Rattle.bits.specs.Bit.{bit}
 use Rattle.cpupri.specs.Record.{recordOf}
 use Rattle.cpupri.specs.declared.record.Record.{Record}
 use Rattle.rules.specs.Machine.{Machine, Column, taskOf, row, levels, store, enqueue, dequeue, requeue, lowestAllowed, free, asleep, runnable, rr, fullSlice}
 use Rattle.rules.specs.Tables.{flatOf, rowCounts}
-use Rattle.rules.specs.Events.{Event, Kind, kinds, kindOf, byKind, effectOf, reprioritised, reaffined, tickedTask, ticked, yielded, toFirst}
+use Rattle.rules.specs.Events.{Event, Kind, kindOf, byKind, effectOf, reprioritised, reaffined, tickedTask, ticked, toFirst}
 use Rattle.rules.specs.Events.{add, remove, wake, sleep, set-priority, set-affinity, tick, yield, set-ordinary}
 use Rattle.rules.specs.Refusals.{firstFailing, checks, refusal, unknownKind}
 use Rattle.rules.proofs.Lists.{same?}

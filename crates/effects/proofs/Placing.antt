@@ -1,19 +1,19 @@
 -- What the lent tables give to a placement, and what it gives back, for each kind that moves a task.
 -- Assumes nothing.
-use mathlib.Core.Path.{_≡_, refl, sym, ap, _∙_, subst}
+use mathlib.Core.Path.{_≡_, sym, ap, _∙_, subst}
 use mathlib.Core.Bool.{Bool, true, false, cond}
 use mathlib.Core.Logic.{_≢_}
-use mathlib.Core.List.{List, [], _∷_}
+use mathlib.Core.List.{List}
 use Prim.Native.Nat.{ℕ, _≤_, _<_, _^_}
 use native.Mathlib.Omega.{arith}
 use lib.Dec.{eqb}
-use lib.ListN.{length, getD, set}
+use lib.ListN.{set}
 use borrow.Author.Tests.{eq-eqb, ne-eqb}
 use Rattle.bits.specs.Bit.{bit, lowest}
 use Rattle.cpupri.specs.Record.{recordOf}
 use Rattle.cpupri.specs.declared.record.Record.{Record}
 use Rattle.rules.specs.Lists.{In}
-use Rattle.rules.specs.Machine.{Machine, Task, Column, taskOf, prioOf, row, flag, levels, rowLevel, store, enqueue, dequeue, lowestAllowed, asleep, runnable, taskPlaces, highestPriority}
+use Rattle.rules.specs.Machine.{Machine, Task, Column, taskOf, row, levels, store, enqueue, dequeue, lowestAllowed, asleep, runnable, cpuPlaces, highestPriority}
 use Rattle.rules.specs.WellFormed.{WellFormed, Fit}
 use Rattle.rules.specs.Events.{wakeCpu, woken, slept, reprioritised, reaffined}
 use Rattle.rules.proofs.Rows.{store-same}
@@ -46,7 +46,7 @@ module _ (m : Machine) (t : ℕ) (w : WellFormed m) (s : InState asleep m t) whe
       go true = sleeper-fit .cpu
       go false = lowest-good (taskOf m t .mask) (m .n) (sleeper-fit .mask-some) (sleeper-fit .mask-fits) .0
 
-  pub wake-is : cond (bit (taskOf m t .mask) (taskOf m t .cpu)) (taskOf m t .cpu) (lowest 64 (taskOf m t .mask)) ≡ wakeCpu m t
+  pub wake-is : cond (bit (taskOf m t .mask) (taskOf m t .cpu)) (taskOf m t .cpu) (lowest cpuPlaces (taskOf m t .mask)) ≡ wakeCpu m t
   wake-is =
       ap (cond (bit (taskOf m t .mask) (taskOf m t .cpu)) (taskOf m t .cpu))
       (lowest-allowed m (taskOf m t .mask) (w .shape .cpus) (sleeper-fit .mask-some) (sleeper-fit .mask-fits))

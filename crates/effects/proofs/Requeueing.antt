@@ -5,16 +5,16 @@ use mathlib.Core.Path.{_≡_, refl, sym, ap, _∙_, subst}
 use mathlib.Core.Bool.{Bool, true, false, cond}
 use mathlib.Core.Logic.{_≢_, _⊎_, inl, inr}
 use mathlib.Core.List.{List, [], _∷_}
-use Prim.Native.Nat.{ℕ, suc, _+_, _*_, _≤_, _<_}
+use Prim.Native.Nat.{ℕ, _+_, _*_, _≤_, _<_}
 use native.Mathlib.Nat.{suc-ne-zero}
 use native.Mathlib.Omega.{arith}
-use lib.Dec.{eqb, ltb}
+use lib.Dec.{ltb}
 use lib.ListN.{length, getD, set, length-set}
 use borrow.Author.Tests.{eq-eqb, ltb-false}
 use Rattle.cpupri.specs.Record.{recordOf}
 use Rattle.cpupri.specs.declared.record.Record.{Record}
 use Rattle.rules.specs.Lists.{In, Falling, delete, insertBefore}
-use Rattle.rules.specs.Machine.{Machine, taskOf, prioOf, row, flag, level, levels, rowLevel, levelOf, queued, withRow, dequeue, requeue, runnable, taskPlaces}
+use Rattle.rules.specs.Machine.{Machine, taskOf, prioOf, row, flag, level, levels, rowLevel, levelOf, queued, dequeue, requeue, runnable, taskPlaces}
 use Rattle.rules.specs.Tables.{flatOf, rowCounts}
 use Rattle.rules.specs.WellFormed.{WellFormed}
 use Rattle.rules.proofs.Lists.{same?, in-here}

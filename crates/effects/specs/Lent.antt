@@ -11,7 +11,7 @@ use Rattle.rules.specs.Lists.{In}
 use Rattle.rules.specs.Machine.{Machine, row, levels, taskPlaces}
 use Rattle.rules.specs.Tables.{flatOf, rowCounts}
 use Rattle.rules.specs.WellFormed.{WellFormed}
-use Rattle.rules.specs.Events.{Event, Kind, add, remove, wake, sleep, set-priority, set-affinity, tick, yield, set-ordinary}
+use Rattle.rules.specs.Events.{Event, Kind, wake, sleep, set-priority, set-affinity, tick, yield, set-ordinary}
 use Rattle.rules.specs.Refusals.{firstFailing, checks, refusal}
 use Rattle.effects.specs.After.{after, applied}
 

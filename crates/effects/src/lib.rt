@@ -1,6 +1,5 @@
 // The nine kinds of event, each with its checks and its own effect on lent tables, and the dispatcher
 // over them. Each kind is lent only the tables that it touches, as `&` where it only reads.
-ghost use Prim.Native.Nat.{ℕ};
 ghost use Rattle.rules.specs.Machine.{Machine};
 ghost use Rattle.effects.specs.After.{event};
 ghost use Rattle.effects.specs.Lent.{LentAll, Answered};

@@ -8,6 +8,9 @@ use super::answer::Applied;
 use cpupri::level::Level;
 use cpupri::record::Record;
 
+// there is ordinary work; 0: there is none
+const WORK: u32 = 1;
+
 // The flag is b. It is the level of a CPU that runs no task.
 pub fn set_ordinary(
     n: usize,
@@ -27,7 +30,7 @@ pub fn set_ordinary(
             record: record,
         };
     }
-    if 1 < b {
+    if WORK < b {
         return Applied {
             answer: answer::BAD_VALUE,
             record: record,

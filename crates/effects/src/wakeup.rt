@@ -79,7 +79,7 @@ pub fn sleep(
 // Where a task wakes: on its CPU if that is allowed, else on the lowest-numbered allowed one.
 fn wake_cpu(cpu: usize, mask: u64) -> usize
     requires { ⌜ cpu < cpuPlaces ⌝ }
-    ensures { λ r. ⌜ r ≡ cond (bit mask cpu) cpu (lowest 64 mask) ⌝ }
+    ensures { λ r. ⌜ r ≡ cond (bit mask cpu) cpu (lowest cpuPlaces mask) ⌝ }
 {
     if bits::test_bit(mask, cpu) {
         return cpu;

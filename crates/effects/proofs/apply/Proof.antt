@@ -1,6 +1,6 @@
 -- `effects::apply` meets its contract: in each arm the kind's own contract, and what the kind leaves as it was. Assumes nothing.
 use borrow.Author.Needs.{needs}
-use mathlib.Core.Path.{_≡_, refl, sym, ap, _∙_, subst}
+use mathlib.Core.Path.{ap}
 use Rattle.rules.specs.Events.{kindOf}
 use Rattle.effects.specs.After.{event}
 use Rattle.effects.proofs.Dispatching.{lent-add, lent-remove, lent-wake, lent-sleep, lent-priority, lent-affinity, lent-tick, lent-yield, lent-ordinary}

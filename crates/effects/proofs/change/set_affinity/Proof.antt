@@ -1,20 +1,17 @@
 -- `effects::change::set_affinity` meets its contract. Assumes nothing.
 use borrow.Author.Needs.{needs}
-use mathlib.Core.Path.{_≡_, refl, sym, ap, _∙_, subst}
-use mathlib.Core.Bool.{Bool, true, false}
-use mathlib.Core.Logic.{_≢_}
+use mathlib.Core.Path.{_≡_, sym, ap, _∙_, subst}
 use mathlib.Core.List.{List}
 use Prim.Native.Nat.{ℕ, _≤_, _<_}
 use native.Mathlib.Omega.{arith}
 use lib.ListN.{length, getD, set}
 use Rattle.cpupri.specs.declared.record.Record.{Record}
-use Rattle.rules.specs.Machine.{Machine, Column, taskOf, store, dequeue, runnable, cpuPlaces, taskPlaces}
+use Rattle.rules.specs.Machine.{Machine, Column, taskOf, store, dequeue, runnable, cpuPlaces}
 use Rattle.bits.specs.Bit.{bit}
 use Rattle.rules.specs.Events.{set-affinity}
 use Rattle.rules.specs.Refusals.{firstFailing, checks}
-use Rattle.rules.proofs.Apart.{runnable-fit}
 use Rattle.effects.specs.After.{event}
-use Rattle.effects.specs.Lent.{LentAffinity, Reaffined, Placed}
+use Rattle.effects.specs.Lent.{LentAffinity, Placed}
 use Rattle.effects.proofs.Answers.{after-done, after-refused, moved}
 use Rattle.effects.proofs.Accepted.{InState, Reaffinable, reaffinable, lowest-allowed}
 use Rattle.effects.proofs.Placing.{runner-fit, leaving, entering-mask, placed-mask, reaffined-idle, reaffined-same, reaffined-moved}

@@ -1,18 +1,17 @@
 -- `effects::change::set_priority` meets its contract. Assumes nothing.
 use borrow.Author.Needs.{needs}
-use mathlib.Core.Path.{_≡_, refl, sym, ap, _∙_, subst}
-use mathlib.Core.Bool.{Bool, true, false}
+use mathlib.Core.Path.{_≡_, sym, ap, _∙_}
 use mathlib.Core.Logic.{_≢_}
 use mathlib.Core.List.{List}
-use Prim.Native.Nat.{ℕ, _≤_, _<_}
+use Prim.Native.Nat.{ℕ}
 use native.Mathlib.Omega.{arith}
 use lib.ListN.{length, getD, set}
 use Rattle.cpupri.specs.declared.record.Record.{Record}
-use Rattle.rules.specs.Machine.{Machine, Column, taskOf, store, dequeue, runnable, cpuPlaces, taskPlaces}
+use Rattle.rules.specs.Machine.{Machine, Column, taskOf, store, dequeue, runnable}
 use Rattle.rules.specs.Events.{set-priority}
 use Rattle.rules.specs.Refusals.{firstFailing, checks}
 use Rattle.effects.specs.After.{event}
-use Rattle.effects.specs.Lent.{LentPriority, Reprioritised}
+use Rattle.effects.specs.Lent.{LentPriority}
 use Rattle.effects.proofs.Answers.{after-done, after-refused, moved}
 use Rattle.effects.proofs.Accepted.{InState, Reprioritisable, reprioritisable}
 use Rattle.effects.proofs.Placing.{leaving, entering-prio, placed-prio, placed-idle, reprioritised-idle, reprioritised-same, reprioritised-moved}

@@ -1,8 +1,8 @@
 -- `effects::check::changeable_priority` meets its contract. Assumes nothing.
 use borrow.Author.Needs.{needs}
-use mathlib.Core.Path.{_≡_, refl, sym, ap, _∙_, subst}
+use mathlib.Core.Path.{sym, ap, _∙_}
 use mathlib.Core.Bool.{not}
-use borrow.Author.Tests.{le-leb, lt-leb, eq-eqb, ne-eqb}
+use borrow.Author.Tests.{le-leb, lt-leb}
 use Rattle.rules.specs.Machine.{taskPlaces}
 use Rattle.effects.proofs.Answers.{fails-here, passes-here, none-left, same-state, other-state}
 use Rattle.effects.proofs.check.changeable_priority.Statement.{statement}

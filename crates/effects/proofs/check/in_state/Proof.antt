@@ -1,10 +1,10 @@
 -- `effects::check::in_state` meets its contract. Assumes nothing.
 use borrow.Author.Needs.{needs}
-use mathlib.Core.Path.{_≡_, refl, sym, ap, _∙_, subst}
+use mathlib.Core.Path.{ap}
 use mathlib.Core.Bool.{not}
 use borrow.Author.Tests.{le-leb, lt-leb, eq-eqb, ne-eqb}
 use Rattle.rules.specs.Machine.{taskPlaces}
-use Rattle.effects.proofs.Answers.{fails-here, passes-here, none-left, same-state, other-state}
+use Rattle.effects.proofs.Answers.{fails-here, passes-here, none-left}
 use Rattle.effects.proofs.check.in_state.Statement.{statement}
 use Rattle.effects.proofs.check.in_state.Tie as tie
 

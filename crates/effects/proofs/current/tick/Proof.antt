@@ -1,19 +1,18 @@
 -- `effects::current::tick` meets its contract. Assumes nothing.
 use borrow.Author.Needs.{needs}
-use mathlib.Core.Path.{_≡_, refl, sym, ap, _∙_, subst}
+use mathlib.Core.Path.{_≡_, sym, ap, _∙_, subst}
 use mathlib.Core.Logic.{_≢_}
-use mathlib.Core.List.{List, [], _∷_}
+use mathlib.Core.List.{List, _∷_}
 use Prim.Native.Nat.{ℕ, _*_, _-_, _≤_, _<_}
 use native.Mathlib.Omega.{arith}
 use lib.ListN.{length, getD, set}
 use Rattle.rules.specs.Lists.{In}
-use Rattle.rules.specs.Machine.{Machine, taskOf, row, runnable, taskPlaces, rr, fullSlice}
-use Rattle.rules.specs.WellFormed.{Fit}
+use Rattle.rules.specs.Machine.{Machine, row, runnable, taskPlaces, fullSlice}
 use Rattle.rules.specs.Events.{tick}
 use Rattle.rules.proofs.Lists.{in-here}
 use Rattle.rules.proofs.Apart.{in-row, runnable-place, runnable-fit}
 use Rattle.effects.specs.After.{event}
-use Rattle.effects.specs.Lent.{LentTick, Ticked, Running, Queues}
+use Rattle.effects.specs.Lent.{LentTick, Running}
 use Rattle.effects.proofs.Answers.{after-done, after-refused, queues-moved}
 use Rattle.effects.proofs.Accepted.{InState}
 use Rattle.effects.proofs.Requeueing.{queues-counted, none-runs, one-runs, place-in}

@@ -1,17 +1,17 @@
 -- `effects::current::yield_cpu` meets its contract. Assumes nothing.
 use borrow.Author.Needs.{needs}
-use mathlib.Core.Path.{_≡_, refl, sym, ap, _∙_, subst}
+use mathlib.Core.Path.{_≡_, sym, _∙_, subst}
 use mathlib.Core.Logic.{_≢_}
-use mathlib.Core.List.{List, [], _∷_}
-use Prim.Native.Nat.{ℕ, _*_, _-_, _≤_, _<_}
+use mathlib.Core.List.{List, _∷_}
+use Prim.Native.Nat.{ℕ, _*_, _-_, _<_}
 use native.Mathlib.Omega.{arith}
-use lib.ListN.{length, getD, set}
+use lib.ListN.{getD}
 use Rattle.rules.specs.Lists.{In}
 use Rattle.rules.specs.Machine.{Machine, row, taskPlaces}
 use Rattle.rules.specs.Events.{yield}
 use Rattle.rules.proofs.Lists.{in-here}
 use Rattle.effects.specs.After.{event}
-use Rattle.effects.specs.Lent.{LentYield, Yielded, Running, Queues}
+use Rattle.effects.specs.Lent.{LentYield, Running}
 use Rattle.effects.proofs.Answers.{after-done, after-refused, queues-moved}
 use Rattle.effects.proofs.Requeueing.{queues-counted, none-runs, one-runs, place-in}
 use Rattle.effects.proofs.Ticking.{yield-nowhere, yield-empty, yield-accepted, yielded-first}

@@ -1,16 +1,13 @@
 -- `effects::lifecycle::add` meets its contract. Assumes nothing.
 use borrow.Author.Needs.{needs}
-use mathlib.Core.Path.{_≡_, refl, sym, ap, _∙_, subst}
-use Prim.Native.Nat.{ℕ, _≤_, _<_}
+use mathlib.Core.Path.{sym, ap, _∙_, subst}
+use Prim.Native.Nat.{ℕ, _≤_}
 use native.Mathlib.Omega.{arith}
-use lib.ListN.{length}
 use Rattle.bits.specs.Bit.{lowest}
 use Rattle.bits.proofs.Search.{first-le}
-use Rattle.rules.specs.Machine.{Machine, Task, write, asleep, fullSlice}
-use Rattle.rules.specs.Events.{Event, add}
-use Rattle.rules.specs.Refusals.{firstFailing, checks}
+use Rattle.rules.specs.Machine.{write, asleep, fullSlice}
+use Rattle.rules.specs.Events.{add}
 use Rattle.effects.specs.After.{event}
-use Rattle.effects.specs.Lent.{LentAdd, Written}
 use Rattle.effects.proofs.Answers.{columns-kept, columns-written, columns-sized}
 use Rattle.effects.proofs.Accepted.{Addable, addable, lowest-allowed}
 use Rattle.effects.proofs.lifecycle.add.Statement.{statement}

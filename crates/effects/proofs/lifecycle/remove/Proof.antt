@@ -1,13 +1,9 @@
 -- `effects::lifecycle::remove` meets its contract. Assumes nothing.
 use borrow.Author.Needs.{needs}
-use mathlib.Core.Path.{_≡_, refl, sym, ap, _∙_, subst}
-use Prim.Native.Nat.{ℕ, _≤_, _<_}
-use lib.ListN.{length}
-use Rattle.rules.specs.Machine.{Machine, freeTask}
-use Rattle.rules.specs.Events.{Event, remove}
-use Rattle.rules.specs.Refusals.{firstFailing, checks}
-use Rattle.effects.specs.After.{event, taskIn}
-use Rattle.effects.specs.Lent.{LentRemove, Written}
+use mathlib.Core.Path.{refl, sym, _∙_}
+use Rattle.rules.specs.Machine.{freeTask}
+use Rattle.rules.specs.Events.{remove}
+use Rattle.effects.specs.After.{event}
 use Rattle.effects.proofs.Answers.{columns-kept, columns-written, columns-sized, answer-of}
 use Rattle.effects.proofs.Accepted.{removable}
 use Rattle.effects.proofs.lifecycle.remove.Statement.{statement}

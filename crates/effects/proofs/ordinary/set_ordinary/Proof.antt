@@ -1,22 +1,20 @@
 -- `effects::ordinary::set_ordinary` meets its contract. Assumes nothing.
 use borrow.Author.Needs.{needs}
-use mathlib.Core.Path.{_≡_, refl, sym, ap, _∙_, subst}
-use mathlib.Core.Bool.{true}
-use mathlib.Core.Logic.{_≢_}
-use mathlib.Core.List.{List, []}
-use Prim.Native.Nat.{ℕ, _≤_, _<_}
+use mathlib.Core.Path.{_≡_, sym, ap, _∙_, subst}
+use mathlib.Core.List.{List}
+use Prim.Native.Nat.{ℕ, _<_}
 use native.Mathlib.Omega.{arith}
 use lib.ListN.{length, getD, set, length-map}
 use Rattle.cpupri.specs.Record.{recordOf, Whole}
 use Rattle.cpupri.specs.declared.record.Record.{Record}
 use Rattle.cpupri.proofs.Whole.{level-known}
-use Rattle.rules.specs.Machine.{Machine, row, levels, withFlag}
+use Rattle.rules.specs.Machine.{Machine, row, levels}
 use Rattle.rules.specs.Events.{set-ordinary}
 use Rattle.rules.proofs.Record.{level-range}
 use Rattle.runqueue.proofs.Flat.{count-at}
 use Rattle.placement.proofs.Levels.{whole-levels}
 use Rattle.effects.specs.After.{event}
-use Rattle.effects.specs.Lent.{LentOrdinary, Flagged}
+use Rattle.effects.specs.Lent.{LentOrdinary}
 use Rattle.effects.proofs.Answers.{after-done, after-refused}
 use Rattle.effects.proofs.Ticking.{ordinary-nowhere, ordinary-refused, ordinary-accepted, flag-busy, flag-idle}
 use Rattle.effects.proofs.ordinary.set_ordinary.Statement.{statement}

@@ -1,17 +1,16 @@
 -- `effects::wakeup::sleep` meets its contract. Assumes nothing.
 use borrow.Author.Needs.{needs}
-use mathlib.Core.Path.{_≡_, refl, sym, ap, _∙_, subst}
-use mathlib.Core.Bool.{cond}
+use mathlib.Core.Path.{_≡_, sym, ap, _∙_}
 use mathlib.Core.List.{List}
-use Prim.Native.Nat.{ℕ, _≤_, _<_}
+use Prim.Native.Nat.{ℕ}
 use native.Mathlib.Omega.{arith}
 use lib.ListN.{length, getD, set}
 use Rattle.cpupri.specs.declared.record.Record.{Record}
-use Rattle.rules.specs.Machine.{Machine, taskOf, runnable, cpuPlaces, taskPlaces}
+use Rattle.rules.specs.Machine.{Machine, taskOf, runnable}
 use Rattle.rules.specs.Events.{sleep}
 use Rattle.rules.specs.Refusals.{firstFailing}
 use Rattle.effects.specs.After.{event, taskIn}
-use Rattle.effects.specs.Lent.{LentSleep, Slept, Placed}
+use Rattle.effects.specs.Lent.{LentSleep}
 use Rattle.effects.proofs.Answers.{answer-of, after-done, after-refused, moved}
 use Rattle.effects.proofs.Accepted.{InState, stoppable}
 use Rattle.effects.proofs.Placing.{leaving, placed-sleep}

@@ -1,18 +1,18 @@
 -- `effects::wakeup::wake` meets its contract. Assumes nothing.
 use borrow.Author.Needs.{needs}
-use mathlib.Core.Path.{_≡_, refl, sym, ap, _∙_, subst}
+use mathlib.Core.Path.{_≡_, sym, ap, _∙_, subst}
 use mathlib.Core.Bool.{cond}
 use mathlib.Core.List.{List}
-use Prim.Native.Nat.{ℕ, _≤_, _<_}
+use Prim.Native.Nat.{ℕ, _<_}
 use native.Mathlib.Omega.{arith}
 use lib.ListN.{length, getD, set}
 use Rattle.bits.specs.Bit.{bit, lowest}
 use Rattle.cpupri.specs.declared.record.Record.{Record}
-use Rattle.rules.specs.Machine.{Machine, asleep, cpuPlaces, taskPlaces}
+use Rattle.rules.specs.Machine.{Machine, asleep, cpuPlaces}
 use Rattle.rules.specs.Events.{wake, wakeCpu}
 use Rattle.rules.specs.Refusals.{firstFailing}
 use Rattle.effects.specs.After.{event, taskIn}
-use Rattle.effects.specs.Lent.{LentWake, Woken, Placed}
+use Rattle.effects.specs.Lent.{LentWake}
 use Rattle.effects.proofs.Answers.{answer-of, after-done, after-refused, moved}
 use Rattle.effects.proofs.Accepted.{InState, wakeable}
 use Rattle.effects.proofs.Placing.{sleeper-fit, wake-is, entering-wake, placed-wake}
@@ -29,10 +29,10 @@ module _ {ss cs qs ks flat ns : List ℕ} {r : Record} {m : Machine} (l : LentWa
       let f = sleeper-fit m who (l .formed) sleeper in
       subst (λ (xs : List ℕ). getD xs who 0 < cpuPlaces) (sym (l .cpu)) (omega (arith, f .cpu, l .formed .shape .cpus))
 
-  target-is : (c : ℕ) → c ≡ cond (bit (getD ks who 0) (getD cs who 0)) (getD cs who 0) (lowest 64 (getD ks who 0)) → c ≡ wakeCpu m who
+  target-is : (c : ℕ) → c ≡ cond (bit (getD ks who 0) (getD cs who 0)) (getD cs who 0) (lowest cpuPlaces (getD ks who 0)) → c ≡ wakeCpu m who
   target-is c h =
-      h ∙ ap (λ (xs : List ℕ). cond (bit (getD ks who 0) (getD xs who 0)) (getD xs who 0) (lowest 64 (getD ks who 0))) (l .cpu)
-      ∙ ap (λ (xs : List ℕ). cond (bit (getD xs who 0) (getD (m .cpu) who 0)) (getD (m .cpu) who 0) (lowest 64 (getD xs who 0))) (l .mask)
+      h ∙ ap (λ (xs : List ℕ). cond (bit (getD ks who 0) (getD xs who 0)) (getD xs who 0) (lowest cpuPlaces (getD ks who 0))) (l .cpu)
+      ∙ ap (λ (xs : List ℕ). cond (bit (getD xs who 0) (getD (m .cpu) who 0)) (getD (m .cpu) who 0) (lowest cpuPlaces (getD xs who 0))) (l .mask)
       ∙ wake-is m who (l .formed) sleeper
 
 in-state-requires : tie.Need-in-state-requires
