@@ -5,20 +5,19 @@ use mathlib.Core.Path.{_≡_, refl, sym, ap, _∙_, subst}
 use mathlib.Core.Bool.{Bool, true, false, cond, _&&_}
 use mathlib.Core.Logic.{_≢_, _⊎_, inl, inr}
 use mathlib.Core.List.{List, [], _∷_}
-use Prim.Native.Nat.{ℕ, zero, suc, _+_, _≤_, _<_, _^_}
-use native.Mathlib.Nat.{not-suc-le-zero}
+use Prim.Native.Nat.{ℕ, _+_, _≤_, _<_}
 use native.Mathlib.Omega.{arith}
-use lib.Dec.{eqb, leb, ltb}
-use lib.ListN.{length, getD, set, List·getD-eq-default}
-use borrow.Author.Tests.{eqb-true, eq-eqb, ne-eqb, leb-true, leb-false, ltb-true, ltb-false}
+use lib.Dec.{eqb, ltb}
+use lib.ListN.{length, List·getD-eq-default}
+use borrow.Author.Tests.{eq-eqb, ne-eqb, ltb-true, ltb-false}
 use Rattle.bits.specs.Bit.{digit}
 use Rattle.rules.specs.Lists.{occ, In, Falling, insertBefore, delete}
 use Rattle.rules.specs.Machine.{Machine, Task, Column, taskOf, freeTask, prioOf, row, flag, allowed, allows, runnable, taskPlaces}
 use Rattle.rules.specs.Machine.{store, write, withRow, queued, enqueue, dequeue}
 use Rattle.rules.specs.WellFormed.{Shape, Fit, Sound, is-free, is-asleep, is-runnable, standing, WellFormed}
-use Rattle.rules.proofs.Lists.{same?, digit-same, digit-other, occ-cons, in-here, in-there, in-cons, not-in-nil, occ-insert, occ-delete, in-delete}
+use Rattle.rules.proofs.Lists.{same?, digit-same, digit-other, occ-cons, in-cons, not-in-nil, occ-insert, occ-delete}
 use Rattle.rules.proofs.Lists.{falling-delete, falling-head, falling-cong, pigeonhole}
-use Rattle.rules.proofs.Rows.{row-cases, put, store-other, store-same, write-other, write-same, shape-store, shape-write, shape-row}
+use Rattle.rules.proofs.Rows.{row-cases, put, store-other, store-same, write-other, shape-store, shape-write, shape-row}
 
 -- ---- where a task has to stand
 

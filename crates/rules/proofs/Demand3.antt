@@ -1,26 +1,26 @@
 -- Demand 3 holds of every accepted event of all nine kinds, on every well-formed machine, settled or not.
 -- Assumes nothing.
-use mathlib.Core.Path.{_≡_, refl, sym, ap, _∙_, subst}
-use mathlib.Core.Bool.{Bool, true, false, cond, true≢false}
+use mathlib.Core.Path.{_≡_, refl, sym, _∙_, subst}
+use mathlib.Core.Bool.{Bool, true, false, true≢false}
 use mathlib.Core.List.{List, [], _∷_}
-use mathlib.Core.Option.{Option, none, some}
-use Prim.Native.Nat.{ℕ, zero, suc, _-_, _≤_, _<_}
+use mathlib.Core.Option.{none}
+use Prim.Native.Nat.{ℕ, zero, suc, _≤_, _<_}
 use native.Mathlib.Omega.{arith}
-use lib.Dec.{eqb, ltb}
-use lib.ListN.{length}
+use lib.Dec.{ltb}
 use borrow.Author.Tests.{ltb-true, ltb-false}
 use Rattle.rules.specs.Lists.{In}
 use Rattle.rules.specs.Machine.{Machine, prioOf, level, levelOf, allowed, fresh, cpuPlaces}
 use Rattle.rules.specs.WellFormed.{WellFormed}
 use Rattle.rules.specs.Events.{Event, effect}
 use Rattle.rules.specs.Refusals.{refusal}
-use Rattle.rules.specs.Migration.{Settled, waiting, movable, next, settle, settled}
-use Rattle.rules.specs.Outcome.{Outcome, outcome, concluded, answered}
+use Rattle.rules.specs.Migration.{waiting, next, settled}
+use Rattle.rules.specs.Outcome.{Outcome, outcome, answered}
 use Rattle.rules.specs.Cases.{played}
 use Rattle.rules.specs.Demand3.{Demand3, Outdone}
-use Rattle.rules.proofs.Accept.{outcome-accepted}
+use Rattle.rules.proofs.Checks.{outcome-accepted}
 use Rattle.rules.proofs.Effects.{keep-effect, fresh-well-formed}
-use Rattle.rules.proofs.Step.{movable-by, none-movable, running-level}
+use Rattle.rules.proofs.Choice.{movable-by, none-movable}
+use Rattle.rules.proofs.Step.{running-level}
 use Rattle.rules.proofs.Runs.{settle-run, settle-ends, run-few, run-movers, run-receivers, run-falling, run-movers-run, run-well-formed}
 
 -- where no task is movable, no waiting task is higher than what runs on a CPU it is allowed

@@ -1,32 +1,31 @@
 -- A fresh machine is well-formed, and the own effect of every kind keeps a machine well-formed.
 -- Assumes nothing.
 use mathlib.Core.Path.{_≡_, refl, sym, ap, _∙_, subst}
-use mathlib.Core.Bool.{Bool, true, false, cond, not, false≢true, true≢false}
+use mathlib.Core.Bool.{Bool, true, false, cond}
 use mathlib.Core.Logic.{_≢_, _⊎_, inl, inr}
 use mathlib.Core.List.{List, [], _∷_}
-use Prim.Native.Nat.{ℕ, zero, suc, _+_, _-_, _≤_, _<_, _^_, zero-le}
-use native.Mathlib.Nat.{not-suc-le-zero}
+use Prim.Native.Nat.{ℕ, zero, suc, _-_, _≤_, _<_, _^_, zero-le}
 use native.Mathlib.Omega.{arith}
-use lib.Dec.{eqb, leb, ltb, lit≤}
-use lib.ListN.{length, getD, set, replicate, length-replicate, getD-replicate, length-set, List·getD-eq-default}
+use lib.Dec.{eqb, leb, ltb}
+use lib.ListN.{length, getD, set, replicate, length-replicate, getD-replicate, length-set}
 use lib.Seq.{getD-set-same, getD-set-other}
-use borrow.Author.Tests.{eqb-true, eqb-false, eq-eqb, ne-eqb, leb-true, leb-false, ltb-true, ltb-false, not-false}
-use Rattle.bits.specs.Bit.{bit, first, tally, digit}
-use Rattle.bits.proofs.Search.{first-le, first-holds, first-before, zero-of-bits}
+use borrow.Author.Tests.{eqb-true, eqb-false, leb-true, ltb-true, ltb-false, not-false}
+use Rattle.bits.specs.Bit.{bit, first, tally}
+use Rattle.bits.proofs.Search.{first-holds, first-before, zero-of-bits}
 use Rattle.cpupri.specs.Found.{maskFits}
 use Rattle.rules.specs.Lists.{occ, In, Falling}
 use Rattle.rules.specs.Machine.{Machine, Task, Column, taskOf, freeTask, prioOf, row, flag, allowed, allows, lowestAllowed, fresh}
 use Rattle.rules.specs.Machine.{free, asleep, runnable, fifo, rr, taskPlaces, cpuPlaces, fullSlice, lowestPriority, highestPriority}
-use Rattle.rules.specs.Machine.{store, write, withRow, withFlag, enqueue, dequeue, requeue}
+use Rattle.rules.specs.Machine.{store, write, withFlag, enqueue, dequeue, requeue}
 use Rattle.rules.specs.WellFormed.{Shape, Fit, Sound, is-free, is-asleep, is-runnable, standing, WellFormed}
-use Rattle.rules.specs.Events.{Event, Kind, kindOf, effect, effectOf, added, wakeCpu, woken, slept, reprioritised, reaffined, tickedTask, ticked, yielded, toFirst}
+use Rattle.rules.specs.Events.{Event, Kind, effect, effectOf, added, wakeCpu, woken, slept, reprioritised, reaffined, tickedTask, ticked, yielded, toFirst}
 use Rattle.rules.specs.Events.{add, remove, wake, sleep, set-priority, set-affinity, tick, yield, set-ordinary}
-use Rattle.rules.specs.Refusals.{Check, Passes, checks, refusal}
+use Rattle.rules.specs.Refusals.{Passes, checks, refusal}
 use Rattle.rules.proofs.Lists.{same?, in-here}
-use Rattle.rules.proofs.Rows.{put, store-other, store-same, write-other, write-same, shape-store, shape-write, shape-row}
+use Rattle.rules.proofs.Rows.{put, store-other, store-same, write-same, shape-store}
 use Rattle.rules.proofs.Apart.{Apart, apart-idle, apart-dequeue, apart-store, apart-write, rejoin-idle, rejoin-enqueue}
-use Rattle.rules.proofs.Apart.{fit-of, runnable-place, runnable-fit, in-row, standing-idle, no-task}
-use Rattle.rules.proofs.Accept.{Accepted, accepted-checks, effect-is, in-range, is-state, between, one-of, mask-good}
+use Rattle.rules.proofs.Apart.{fit-of, runnable-place, runnable-fit, in-row}
+use Rattle.rules.proofs.Checks.{Accepted, accepted-checks, effect-is, in-range, is-state, between, one-of, mask-good}
 
 -- ---- a fresh machine
 

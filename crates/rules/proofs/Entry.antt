@@ -1,34 +1,31 @@
 -- The public entries: what an answer 0 says of the lent tables, and that an accepted event and the fresh maker leave tables that pass the
 -- check again, with demand 3 of what they then hold.
 -- Assumes nothing.
-use mathlib.Core.Path.{_≡_, refl, sym, ap, ap₂, _∙_, subst}
+use mathlib.Core.Path.{_≡_, refl, sym, ap, _∙_, subst}
 use mathlib.Core.Bool.{Bool, true, false, cond, not, _&&_}
-use mathlib.Core.Logic.{_≢_}
 use mathlib.Core.List.{List, [], _∷_}
-use Prim.Native.Nat.{ℕ, zero, suc, _-_, _*_, _≤_, _<_}
+use Prim.Native.Nat.{ℕ, zero, suc, _-_, _*_, _≤_}
 use native.Mathlib.Omega.{arith}
 use lib.Dec.{eqb}
-use lib.ListN.{length, getD, replicate, length-map, length-replicate}
+use lib.ListN.{length, replicate, length-map, length-replicate}
 use borrow.Author.Tests.{eqb-true, eq-eqb, not-false}
 use Rattle.bits.proofs.Tests.{and-both}
 use Rattle.cpupri.specs.Record.{recordOf}
 use Rattle.cpupri.specs.declared.record.Record.{Record}
-use Rattle.rules.specs.Lists.{In}
 use Rattle.rules.specs.Machine.{Machine, Column, taskOf, row, fresh, levels, taskPlaces, cpuPlaces, runnable, rr, fullSlice}
 use Rattle.rules.specs.Machine.{allows, lowestAllowed, store, enqueue, dequeue, requeue}
-use Rattle.rules.specs.WellFormed.{Shape, WellFormed, shaped, wellFormed}
+use Rattle.rules.specs.WellFormed.{Shape, WellFormed, wellFormed}
 use Rattle.rules.specs.Events.{Event, Kind, effect, effectOf, tickedTask, toFirst}
 use Rattle.rules.specs.Events.{add, remove, wake, sleep, set-priority, set-affinity, tick, yield, set-ordinary}
-use Rattle.rules.specs.Refusals.{Check, firstFailing, Passes, refusal, badSize, illFormed}
-use Rattle.rules.specs.Migration.{settled}
-use Rattle.rules.specs.Outcome.{Outcome, outcome, accepted, logged, entryWidth, logEntries}
+use Rattle.rules.specs.Refusals.{Passes, refusal}
+use Rattle.rules.specs.Outcome.{Outcome, outcome, logged}
 use Rattle.rules.specs.Demand3.{Demand3}
-use Rattle.rules.specs.Tables.{Tables, machineOf, tablesOf, lengthsFit, tablesFit, recordFits, rowsOf, flatOf, rowCounts, storedRows, Stored, nothing, logPlaces}
+use Rattle.rules.specs.Tables.{Tables, machineOf, tablesOf, lengthsFit, tablesFit, recordFits, flatOf, rowCounts, storedRows, Stored, nothing, logPlaces}
 use Rattle.rules.specs.Entry.{Result, kept, written, sizeCheck, formCheck, checked, orElse, eventAnswer, made, madeBy, handled, handledBy}
 use Rattle.rules.proofs.Bools.{both}
 use Rattle.rules.proofs.Apart.{in-row, runnable-place}
-use Rattle.rules.proofs.Accept.{Accepted, accepted-checks, effect-is, outcome-accepted, passes, passed}
-use Rattle.rules.proofs.Effects.{keep-effect, fresh-well-formed}
+use Rattle.rules.proofs.Checks.{Accepted, accepted-checks, effect-is, outcome-accepted, passes, passed}
+use Rattle.rules.proofs.Effects.{fresh-well-formed}
 use Rattle.rules.proofs.Runs.{settle-run, run-n}
 use Rattle.rules.proofs.Demand3.{demand3}
 use Rattle.rules.proofs.Room.{row-fits}

@@ -1,12 +1,14 @@
--- The laws of the rules.
-pub mod Marked
+-- The laws of the rules. `AllCases` has K1 to K12, `Demand3` demand 3, `Room` the room theorem, `Entry` what the public entries promise.
+pub mod AllCases
 pub mod Bools
 pub mod Lists
 pub mod Rows
 pub mod Apart
-pub mod Accept
+pub mod Checks
 pub mod Effects
 pub mod Order
+pub mod Best
+pub mod Choice
 pub mod Step
 pub mod Runs
 pub mod Demand3
@@ -14,5 +16,7 @@ pub mod Room
 pub mod Test
 pub mod Tables
 pub mod Record
+pub mod Finder
 pub mod Log
 pub mod Entry
+pub mod LentCase

@@ -1,10 +1,9 @@
 -- The laws of lists that the rules rest on: standing in a list, joining and leaving a queue, the pigeonhole, and who is best.
 -- Assumes nothing.
 use mathlib.Core.Path.{_≡_, refl, sym, ap, _∙_, subst}
-use mathlib.Core.Bool.{Bool, true, false, cond, _&&_, _||_, true≢false, false≢true}
+use mathlib.Core.Bool.{Bool, true, false, cond, _||_, false≢true}
 use mathlib.Core.Logic.{_≢_, _⊎_, inl, inr}
 use mathlib.Core.List.{List, [], _∷_, _++_, map, tail}
-use mathlib.Core.Option.{Option, none, some}
 use Prim.Native.Nat.{ℕ, zero, suc, _+_, _≤_, _<_, zero-le, suc-le-suc}
 use native.Mathlib.Nat.{not-suc-le-zero, le-of-suc-le-suc, zero-lt-suc}
 use native.Mathlib.Omega.{arith}
@@ -12,7 +11,7 @@ use lib.Dec.{eqb}
 use lib.ListN.{length, getD}
 use borrow.Author.Tests.{eqb-true, eqb-false, eq-eqb, ne-eqb}
 use Rattle.bits.specs.Bit.{digit, tally}
-use Rattle.rules.specs.Lists.{occ, In, Falling, from, below, select, joined, any, each, bestFrom, best, insertBefore, delete}
+use Rattle.rules.specs.Lists.{occ, In, Falling, from, below, select, joined, any, insertBefore, delete}
 
 -- ---- equal or not
 
@@ -274,66 +273,3 @@ falling-cong p q (y ∷ ys) e f = (
   λ u i. let here : p y ≡ q y = e y (in-here y ys) in let there : p u ≡ q u = e u (in-there u y ys i) in omega (arith, f .0 u i),
   falling-cong p q ys (λ u i. e u (in-there u y ys i)) (f .1),
 )
-
--- ---- who is best
-
--- R x y says that x is at least as good as y
-module _ (beats : ℕ → ℕ → Bool) (R : ℕ → ℕ → Type 0) (trans : (x y z : ℕ) → R x y → R y z → R x z)
-    (won : (x y : ℕ) → beats y x ≡ true → R y x) (lost : (x y : ℕ) → beats y x ≡ false → R x y) (self : (x : ℕ) → R x x) where
-  pub bestFrom-in : (x : ℕ) (xs : List ℕ) → In (bestFrom beats x xs) (x ∷ xs)
-  unfolding bestFrom
-  bestFrom-in x [] = in-here x []
-  bestFrom-in x (y ∷ ys) = go (beats y x) (bestFrom-in x ys) (bestFrom-in y ys)
-    where
-      move : (b z : ℕ) → In b (z ∷ ys) → In z (x ∷ y ∷ ys) → In b (x ∷ y ∷ ys)
-      move b z i j = pick (in-cons b z ys i)
-        where
-          pick : (b ≡ z) ⊎ In b ys → In b (x ∷ y ∷ ys)
-          pick (inl e) = subst (λ (k : ℕ). In k (x ∷ y ∷ ys)) (sym e) j
-          pick (inr k) = in-there b x (y ∷ ys) (in-there b y ys k)
-
-      go : (b : Bool) → In (bestFrom beats x ys) (x ∷ ys) → In (bestFrom beats y ys) (y ∷ ys) → In (bestFrom beats (cond b y x) ys) (x ∷ y ∷ ys)
-      go true hx hy = move (bestFrom beats y ys) y hy (in-there y x (y ∷ ys) (in-here y ys))
-      go false hx hy = move (bestFrom beats x ys) x hx (in-here x (y ∷ ys))
-
-  pub bestFrom-best : (x : ℕ) (xs : List ℕ) (u : ℕ) → In u (x ∷ xs) → R (bestFrom beats x xs) u
-  unfolding bestFrom
-  bestFrom-best x [] u i = go (in-cons u x [] i)
-    where
-      go : (u ≡ x) ⊎ In u [] → R x u
-      go (inl e) = subst (R x) (sym e) (self x)
-      go (inr j) = absurd (not-in-nil u j)
-  bestFrom-best x (y ∷ ys) u i = go (beats y x) refl (in-cons u x (y ∷ ys) i) (bestFrom-best x ys) (bestFrom-best y ys)
-    where
-      go : (b : Bool) → beats y x ≡ b → (u ≡ x) ⊎ In u (y ∷ ys) → ((u : ℕ) → In u (x ∷ ys) → R (bestFrom beats x ys) u)
-          → ((u : ℕ) → In u (y ∷ ys) → R (bestFrom beats y ys) u) → R (bestFrom beats (cond b y x) ys) u
-      go true e (inl s) hx hy =
-          subst (R (bestFrom beats y ys)) (sym s) (trans (bestFrom beats y ys) y x (hy y (in-here y ys)) (won x y e))
-      go true e (inr j) hx hy = hy u j
-      go false e (inl s) hx hy = subst (R (bestFrom beats x ys)) (sym s) (hx x (in-here x ys))
-      go false e (inr j) hx hy = pick (in-cons u y ys j)
-        where
-          pick : (u ≡ y) ⊎ In u ys → R (bestFrom beats x ys) u
-          pick (inl s) =
-              subst (R (bestFrom beats x ys)) (sym s) (trans (bestFrom beats x ys) x y (hx x (in-here x ys)) (lost x y e))
-          pick (inr k) = hx u (in-there u x ys k)
-
-  pub best-in : (xs : List ℕ) (b : ℕ) → best beats xs ≡ some b → In b xs
-  unfolding best
-  best-in [] b e = absurd (let z : _≡_ {A = ℕ} 0 1 = cc in omega arith)
-  best-in (x ∷ xs) b e = let s : bestFrom beats x xs ≡ b = cc in subst (λ (k : ℕ). In k (x ∷ xs)) s (bestFrom-in x xs)
-
-  pub best-best : (xs : List ℕ) (b u : ℕ) → best beats xs ≡ some b → In u xs → R b u
-  unfolding best
-  best-best [] b u e i = absurd (not-in-nil u i)
-  best-best (x ∷ xs) b u e i = let s : bestFrom beats x xs ≡ b = cc in subst (λ (k : ℕ). R k u) s (bestFrom-best x xs u i)
-
-pub best-none : (beats : ℕ → ℕ → Bool) (xs : List ℕ) (u : ℕ) → best beats xs ≡ none → In u xs → ⊥
-unfolding best
-best-none beats [] u e i = not-in-nil u i
-best-none beats (x ∷ xs) u e i = let z : _≡_ {A = ℕ} 0 1 = cc in omega arith
-
-pub best-some : (beats : ℕ → ℕ → Bool) (xs : List ℕ) (u : ℕ) → In u xs → (b : ℕ) × (best beats xs ≡ some b)
-unfolding best
-best-some beats [] u i = absurd (not-in-nil u i)
-best-some beats (x ∷ xs) u i = (bestFrom beats x xs, refl)

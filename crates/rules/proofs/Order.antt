@@ -1,18 +1,15 @@
--- Who stands first: places in lists, and that the best of a list is the first of its equals.
+-- Who stands first: places in lists, and lists that are in order.
 -- Assumes nothing.
 use mathlib.Core.Path.{_≡_, refl, sym, ap, _∙_, subst}
-use mathlib.Core.Bool.{Bool, true, false, cond, true≢false, false≢true}
+use mathlib.Core.Bool.{Bool, true, false, cond, false≢true}
 use mathlib.Core.Logic.{_≢_, _⊎_, inl, inr}
 use mathlib.Core.List.{List, [], _∷_, _++_, map, tail}
-use mathlib.Core.Option.{Option, none, some}
 use Prim.Native.Nat.{ℕ, zero, suc, _+_, _≤_, _<_, zero-le, suc-le-suc}
-use native.Mathlib.Nat.{not-suc-le-zero, le-of-suc-le-suc}
 use native.Mathlib.Omega.{arith}
-use lib.Dec.{eqb}
 use lib.ListN.{length, getD}
-use borrow.Author.Tests.{eqb-true, eqb-false, eq-eqb, ne-eqb}
-use Rattle.rules.specs.Lists.{occ, In, place, from, select, joined, bestFrom, best}
-use Rattle.rules.proofs.Lists.{same?, in-here, in-there, in-cons, not-in-nil, occ-append, occ-nil, select-in, from-in, bestFrom-in, bestFrom-best}
+use borrow.Author.Tests.{eq-eqb, ne-eqb}
+use Rattle.rules.specs.Lists.{In, place, from, select, joined}
+use Rattle.rules.proofs.Lists.{same?, in-here, in-there, in-cons, not-in-nil, from-in}
 
 -- ---- places
 
@@ -31,6 +28,19 @@ place-zero x y ys h = go (same? x y)
     go : (x ≡ y) ⊎ (x ≢ y) → x ≡ y
     go (inl e) = e
     go (inr n) = absurd (omega (arith, place-there x y ys n))
+
+-- one place, one element
+pub place-same : (x y : ℕ) (xs : List ℕ) → In x xs → In y xs → place x xs ≡ place y xs → x ≡ y
+place-same x y [] i j e = absurd (not-in-nil x i)
+place-same x y (z ∷ zs) i j e = go (same? x z) (same? y z) (in-cons x z zs i) (in-cons y z zs j) (place-same x y zs)
+  where
+    go : (x ≡ z) ⊎ (x ≢ z) → (y ≡ z) ⊎ (y ≢ z) → (x ≡ z) ⊎ In x zs → (y ≡ z) ⊎ In y zs → (In x zs → In y zs → place x zs ≡ place y zs → x ≡ y) → x ≡ y
+    go (inl a) (inl b) i j ih = a ∙ sym b
+    go (inl a) (inr n) i j ih = absurd (omega (arith, place-here x z zs a, place-there y z zs n))
+    go (inr n) (inl b) i j ih = absurd (omega (arith, place-here y z zs b, place-there x z zs n))
+    go (inr n) (inr k) (inl a) j ih = absurd (n a)
+    go (inr n) (inr k) (inr i) (inl b) ih = absurd (k b)
+    go (inr n) (inr k) (inr i) (inr j) ih = ih i j (omega (arith, place-there x z zs n, place-there y z zs k))
 
 pub place-lt : (x : ℕ) (xs : List ℕ) → In x xs → place x xs < length xs
 place-lt x [] i = absurd (not-in-nil x i)
@@ -121,80 +131,3 @@ place-tails x y (suc i) (suc j) (r ∷ rs) a b ux uy h =
     let ih =
     place-tails x y i j rs a b (λ k q. let z : suc k ≡ suc i = ux (suc k) q in omega arith) (λ k q. let z : suc k ≡ suc j = uy (suc k) q in omega arith) (omega arith) in
     (suc-le-suc (ih .0), λ e. ih .1 (omega arith))
-
--- ---- the best is the first of its equals
-
-module _ (beats : ℕ → ℕ → Bool) (R : ℕ → ℕ → Type 0) (trans : (x y z : ℕ) → R x y → R y z → R x z)
-    (won : (x y : ℕ) → beats y x ≡ true → R y x) (lost : (x y : ℕ) → beats y x ≡ false → R x y) (self : (x : ℕ) → R x x)
-    (strict : (x y z : ℕ) → beats x y ≡ true → R y z → beats x z ≡ true) (up : (x y z : ℕ) → R x y → beats y z ≡ true → beats x z ≡ true) where
-  pub bestFrom-first : (x : ℕ) (xs : List ℕ) (u : ℕ) → In u (x ∷ xs) → beats (bestFrom beats x xs) u ≡ false
-      → place (bestFrom beats x xs) (x ∷ xs) ≤ place u (x ∷ xs)
-  unfolding bestFrom
-  bestFrom-first x [] u i h = omega (arith, place-here x x [] refl)
-  bestFrom-first x (y ∷ ys) u i h = go (beats y x) refl h (bestFrom-first x ys) (bestFrom-first y ys)
-    where
-      First : ℕ → Type 0
-      First z = (u : ℕ) → In u (z ∷ ys) → beats (bestFrom beats z ys) u ≡ false → place (bestFrom beats z ys) (z ∷ ys) ≤ place u (z ∷ ys)
-
-      -- a later one beats x
-      later : (b : ℕ) → R b y → beats y x ≡ true → beats b u ≡ false → (u ≡ x) ⊎ In u (y ∷ ys) → (b ≡ x) ⊎ (b ≢ x)
-          → (In u (y ∷ ys) → place b (y ∷ ys) ≤ place u (y ∷ ys)) → place b (x ∷ y ∷ ys) ≤ place u (x ∷ y ∷ ys)
-      later b r e h i (inl s) f = omega (arith, place-here b x (y ∷ ys) s)
-      later b r e h (inl s) (inr n) f = absurd (true≢false (sym (up b y x r e) ∙ ap (beats b) (sym s) ∙ h))
-      later b r e h (inr i) (inr n) f = pick (same? u x)
-        where
-          pick : (u ≡ x) ⊎ (u ≢ x) → place b (x ∷ y ∷ ys) ≤ place u (x ∷ y ∷ ys)
-          pick (inl s) = absurd (true≢false (sym (up b y x r e) ∙ ap (beats b) (sym s) ∙ h))
-          pick (inr k) = omega (arith, place-there b x (y ∷ ys) n, place-there u x (y ∷ ys) k, f i)
-
-      -- y does not beat x
-      sooner : (b : ℕ) → beats y x ≡ false → beats b u ≡ false → (b ≡ x) ⊎ (b ≢ x) → ((u : ℕ) → In u (x ∷ ys) → beats b u ≡ false → place b (x ∷ ys) ≤ place u (x ∷ ys))
-          → place b (x ∷ y ∷ ys) ≤ place u (x ∷ y ∷ ys)
-      sooner b e h (inl s) f = omega (arith, place-here b x (y ∷ ys) s)
-      sooner b e h (inr n) f = which (beats b x) refl
-        where
-          beaten : beats b x ≡ true → place b (x ∷ y ∷ ys) ≤ place u (x ∷ y ∷ ys)
-          beaten t = pick (same? u x) (same? u y) (same? b y)
-            where
-              pick : (u ≡ x) ⊎ (u ≢ x) → (u ≡ y) ⊎ (u ≢ y) → (b ≡ y) ⊎ (b ≢ y) → place b (x ∷ y ∷ ys) ≤ place u (x ∷ y ∷ ys)
-              pick (inl s) v w = absurd (true≢false (sym t ∙ ap (beats b) (sym s) ∙ h))
-              pick (inr k) (inl s) w = absurd (true≢false (sym (strict b x y t (lost x y e)) ∙ ap (beats b) (sym s) ∙ h))
-              pick (inr k) (inr l) (inl s) =
-                  omega (arith, place-there b x (y ∷ ys) n, place-here b y ys s, place-there u x (y ∷ ys) k)
-              pick (inr k) (inr l) (inr o) = last (in-cons u x (y ∷ ys) i)
-                where
-                  last : (u ≡ x) ⊎ In u (y ∷ ys) → place b (x ∷ y ∷ ys) ≤ place u (x ∷ y ∷ ys)
-                  last (inl s) = absurd (k s)
-                  last (inr j) = end (in-cons u y ys j)
-                    where
-                      end : (u ≡ y) ⊎ In u ys → place b (x ∷ y ∷ ys) ≤ place u (x ∷ y ∷ ys)
-                      end (inl s) = absurd (l s)
-                      end (inr q) =
-                          omega (
-                            arith,
-                            f u (in-there u x ys q) h,
-                            place-there b x ys n,
-                            place-there u x ys k,
-                            place-there b x (y ∷ ys) n,
-                            place-there b y ys o,
-                            place-there u x (y ∷ ys) k,
-                            place-there u y ys l,
-                          )
-
-          which : (t : Bool) → beats b x ≡ t → place b (x ∷ y ∷ ys) ≤ place u (x ∷ y ∷ ys)
-          which true t = beaten t
-          which false t = absurd (n (place-zero b x ys (omega (arith, f x (in-here x ys) t, place-here x x ys refl))))
-
-      go : (t : Bool) → beats y x ≡ t → beats (bestFrom beats (cond t y x) ys) u ≡ false → First x → First y
-          → place (bestFrom beats (cond t y x) ys) (x ∷ y ∷ ys) ≤ place u (x ∷ y ∷ ys)
-      go true e h fx fy =
-          later (bestFrom beats y ys) (bestFrom-best beats R trans won lost self y ys y (in-here y ys)) e h (in-cons u x (y ∷ ys) i)
-          (same? (bestFrom beats y ys) x) (λ j. fy u j h)
-      go false e h fx fy = sooner (bestFrom beats x ys) e h (same? (bestFrom beats x ys) x) fx
-
-  pub best-first : (xs : List ℕ) (b u : ℕ) → best beats xs ≡ some b → In u xs → beats b u ≡ false → place b xs ≤ place u xs
-  unfolding best
-  best-first [] b u e i h = absurd (not-in-nil u i)
-  best-first (x ∷ xs) b u e i h =
-      let s : bestFrom beats x xs ≡ b = cc in
-      subst (λ (k : ℕ). place k (x ∷ xs) ≤ place u (x ∷ xs)) s (bestFrom-first x xs u i (ap (λ (k : ℕ). beats k u) s ∙ h))

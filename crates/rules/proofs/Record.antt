@@ -1,10 +1,9 @@
 -- W6: the record that the caller hands in passes the test exactly if it is the one that the machine's levels determine.
 -- Assumes nothing.
 use mathlib.Core.Path.{_≡_, refl, sym, ap, _∙_, subst}
-use mathlib.Core.Bool.{Bool, true, false, _&&_}
+use mathlib.Core.Bool.{Bool, true, false}
 use mathlib.Core.Logic.{_≢_}
-use mathlib.Core.List.{List, [], _∷_, _++_, map}
-use mathlib.Core.Option.{Option, none, some}
+use mathlib.Core.List.{List, [], _∷_, map}
 use Prim.Native.Nat.{ℕ, zero, suc, _+_, _-_, _≤_, _<_}
 use native.Mathlib.Nat.{not-suc-le-zero, le-of-suc-le-suc}
 use native.Mathlib.Omega.{arith}
@@ -13,14 +12,14 @@ use lib.ListN.{length, getD, replicate, length-append, length-replicate, length-
 use lib.Seq.{getD-append-add, ext-getD}
 use borrow.Author.Tests.{ltb-true, ltb-false}
 use Rattle.bits.proofs.Tests.{and-both}
-use Rattle.cpupri.specs.Level.{levelCount, unused, idle}
-use Rattle.cpupri.specs.Record.{recordOf, Whole, masksOf, countsOf, wordsOf, freshLevels}
+use Rattle.cpupri.specs.Level.{levelCount, unused}
+use Rattle.cpupri.specs.Record.{recordOf, Whole, freshLevels}
 use Rattle.cpupri.specs.Consistent.{consistent, levelsFit, levelFits, agrees, same}
 use Rattle.cpupri.specs.declared.record.Record.{Record}
 use Rattle.cpupri.proofs.Agrees.{same-is, same-refl, agrees-of, fit-all, below-fits, above-fits, consistent-whole}
 use Rattle.cpupri.proofs.Fresh.{length-fresh, fresh-below, fresh-above}
 use Rattle.rules.specs.Lists.{In, from, below}
-use Rattle.rules.specs.Machine.{Machine, taskOf, prioOf, row, flag, running, rowLevel, level, levelOf, levels, invalid, cpuPlaces, highestPriority, lowestPriority, fresh}
+use Rattle.rules.specs.Machine.{Machine, taskOf, prioOf, row, flag, rowLevel, level, levels, invalid, cpuPlaces, highestPriority, lowestPriority, fresh}
 use Rattle.rules.specs.WellFormed.{WellFormed, Fit}
 use Rattle.rules.specs.Tables.{recordFits}
 use Rattle.rules.proofs.Bools.{both}

@@ -1,19 +1,19 @@
 -- The room theorem at each place where a rule enters a task into a row: that row has at most 511 tasks. So no insertion finds its row full.
 -- Assumes nothing.
-use mathlib.Core.Path.{_≡_, refl, sym, ap, _∙_, subst}
+use mathlib.Core.Path.{_≡_, sym, subst}
 use mathlib.Core.Logic.{_≢_}
-use mathlib.Core.List.{List, [], _∷_}
+use mathlib.Core.List.{List, _∷_}
 use mathlib.Core.Option.{some}
-use Prim.Native.Nat.{ℕ, zero, suc, _≤_, _<_}
-use native.Mathlib.Omega.{arith}
+use Prim.Native.Nat.{ℕ, _≤_, _<_}
 use lib.ListN.{length}
 use Rattle.rules.specs.Lists.{In}
-use Rattle.rules.specs.Machine.{Machine, taskOf, row, asleep, runnable, taskPlaces, dequeue}
+use Rattle.rules.specs.Machine.{Machine, taskOf, row, runnable, taskPlaces, dequeue}
 use Rattle.rules.specs.WellFormed.{WellFormed}
 use Rattle.rules.specs.Migration.{Move, next}
 use Rattle.rules.proofs.Lists.{in-here, pigeonhole}
-use Rattle.rules.proofs.Apart.{Apart, apart-idle, apart-dequeue, room, in-row, once, runnable-place}
-use Rattle.rules.proofs.Step.{chosen, step-room}
+use Rattle.rules.proofs.Apart.{apart-idle, apart-dequeue, room, in-row, once, runnable-place}
+use Rattle.rules.proofs.Choice.{chosen}
+use Rattle.rules.proofs.Step.{step-room}
 
 -- W3's counts: no row has more than 512 tasks
 pub row-fits : (m : Machine) (c : ℕ) → WellFormed m → length (row m c) ≤ taskPlaces

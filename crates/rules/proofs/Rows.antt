@@ -1,11 +1,10 @@
 -- What changing one row, one column or one task does to the rest of a machine.
 -- Assumes nothing.
-use mathlib.Core.Path.{_≡_, refl, sym, ap, _∙_, subst}
+use mathlib.Core.Path.{_≡_, sym, _∙_, subst}
 use mathlib.Core.Logic.{_≢_, _⊎_, inl, inr}
-use mathlib.Core.List.{List, [], _∷_}
-use Prim.Native.Nat.{ℕ, zero, suc, _≤_, _<_}
-use native.Mathlib.Omega.{arith}
-use lib.ListN.{length, getD, set, length-set}
+use mathlib.Core.List.{List, []}
+use Prim.Native.Nat.{ℕ, _<_}
+use lib.ListN.{length, length-set}
 use lib.Seq.{getD-set-same, getD-set-other}
 use Rattle.rules.specs.Machine.{Machine, Task, Column, taskOf, row, store, write, withRow, taskPlaces}
 use Rattle.rules.specs.Machine.{state, policy, prio, cpu, slice, mask}
@@ -32,13 +31,16 @@ row-cases m c r P h new old d = go (same? d c)
 -- ---- columns
 
 -- a task with another entry in one column
+abbrev task : ℕ → ℕ → ℕ → ℕ → ℕ → ℕ → Task
+task s p q c l k = record { state = s; policy = p; prio = q; cpu = c; slice = l; mask = k }
+
 abbrev pub put : Column → ℕ → Task → Task
-put state v τ = record { state = v; policy = τ .policy; prio = τ .prio; cpu = τ .cpu; slice = τ .slice; mask = τ .mask }
-put policy v τ = record { state = τ .state; policy = v; prio = τ .prio; cpu = τ .cpu; slice = τ .slice; mask = τ .mask }
-put prio v τ = record { state = τ .state; policy = τ .policy; prio = v; cpu = τ .cpu; slice = τ .slice; mask = τ .mask }
-put cpu v τ = record { state = τ .state; policy = τ .policy; prio = τ .prio; cpu = v; slice = τ .slice; mask = τ .mask }
-put slice v τ = record { state = τ .state; policy = τ .policy; prio = τ .prio; cpu = τ .cpu; slice = v; mask = τ .mask }
-put mask v τ = record { state = τ .state; policy = τ .policy; prio = τ .prio; cpu = τ .cpu; slice = τ .slice; mask = v }
+put state v τ = task v (τ .policy) (τ .prio) (τ .cpu) (τ .slice) (τ .mask)
+put policy v τ = task (τ .state) v (τ .prio) (τ .cpu) (τ .slice) (τ .mask)
+put prio v τ = task (τ .state) (τ .policy) v (τ .cpu) (τ .slice) (τ .mask)
+put cpu v τ = task (τ .state) (τ .policy) (τ .prio) v (τ .slice) (τ .mask)
+put slice v τ = task (τ .state) (τ .policy) (τ .prio) (τ .cpu) v (τ .mask)
+put mask v τ = task (τ .state) (τ .policy) (τ .prio) (τ .cpu) (τ .slice) v
 
 pub store-other : (k : Column) (t v u : ℕ) (m : Machine) → u ≢ t → taskOf (store k t v m) u ≡ taskOf m u
 store-other state t v u m n = rw (getD-set-other (m .state) t u v 0 n)

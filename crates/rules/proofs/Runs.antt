@@ -1,22 +1,22 @@
 -- All steps of an event, as a relation: inductions over the steps go over it. The steps end because nothing is movable.
 -- Assumes nothing.
-use mathlib.Core.Path.{_≡_, refl, sym, ap, ap₂, _∙_, subst}
-use mathlib.Core.Bool.{Bool, true, false, true≢false, false≢true}
+use mathlib.Core.Path.{_≡_, refl, sym, ap, _∙_, subst}
 use mathlib.Core.Logic.{_≢_, _⊎_, inl, inr}
-use mathlib.Core.List.{List, [], _∷_, map}
+use mathlib.Core.List.{List, [], _∷_}
 use mathlib.Core.Option.{Option, none, some}
-use Prim.Native.Nat.{ℕ, zero, suc, _+_, _-_, _≤_, _<_, zero-le}
+use Prim.Native.Nat.{ℕ, zero, suc, _≤_, _<_}
 use native.Mathlib.Nat.{not-suc-le-zero, le-of-suc-le-suc}
 use native.Mathlib.Omega.{arith}
 use lib.ListN.{length, getD, length-map}
 use Rattle.rules.specs.Lists.{occ, In, Falling}
-use Rattle.rules.specs.Machine.{Machine, taskOf, prioOf, row, head, running, level, levelOf, taskPlaces}
+use Rattle.rules.specs.Machine.{Machine, taskOf, prioOf, row, head, running, level, levelOf}
 use Rattle.rules.specs.WellFormed.{WellFormed}
-use Rattle.rules.specs.Migration.{Move, Chosen, Settled, onward, next, migrate, settle, waiting, movable}
+use Rattle.rules.specs.Migration.{Move, Chosen, Settled, onward, next, migrate, settle, settled}
 use Rattle.rules.specs.Demand3.{movers, receivers}
-use Rattle.rules.proofs.Lists.{same?, digit-same, digit-other, occ-cons, occ-nil, in-here, in-there, in-cons, not-in-nil, in-tails, pigeonhole}
+use Rattle.rules.proofs.Lists.{same?, digit-same, digit-other, occ-cons, occ-nil, in-here, in-cons, not-in-nil, in-tails, pigeonhole}
 use Rattle.rules.proofs.Apart.{in-row, once}
-use Rattle.rules.proofs.Step.{chosen, Cap, cap-step, keep-step, origin-small, origin-level, target-level, target-runs, same-runs, levels-rise}
+use Rattle.rules.proofs.Choice.{chosen}
+use Rattle.rules.proofs.Step.{Cap, cap-step, keep-step, origin-small, origin-level, target-level, target-runs, same-runs, levels-rise}
 use Rattle.rules.proofs.Step.{level-running}
 
 -- `Run k m l e`: from m, with at most k steps, the steps l lead to e, where none applies or the k are used up
@@ -277,3 +277,18 @@ settle-more (suc k) (suc j) m n h = go (next m) refl n (λ v x. settle-more k j 
 -- the end does not depend on the bound
 pub settle-any : (k : ℕ) (m : Machine) → WellFormed m → m .n ≤ k → settle k m ≡ settle (m .n) m
 settle-any k m w h = settle-more (m .n) k m (settle-ends (m .n) m w (omega arith)) h
+
+-- ---- all steps, one by one
+
+pub settled-stop : (m : Machine) → next m ≡ none → settled m ≡ record { log = []; machine = m }
+unfolding settle
+settled-stop m e = go (m .n)
+  where
+    go : (k : ℕ) → settle k m ≡ record { log = []; machine = m }
+    go zero = refl
+    go (suc k) = ap (onward m (λ v. settle k (migrate v m))) e
+
+pub settled-step : (m : Machine) (v : Move) → WellFormed m → next m ≡ some v
+    → settled m ≡ record { log = v ∷ settled (migrate v m) .log; machine = settled (migrate v m) .machine }
+unfolding settle
+settled-step m v w e = sym (settle-any (suc (m .n)) m w (omega arith)) ∙ ap (onward m (λ v. settle (m .n) (migrate v m))) e

@@ -1,231 +1,26 @@
--- One migration step: who moves and where to, what it does to the rows and levels, and that it keeps the machine well-formed.
+-- One migration step: what it does to the rows and levels, and that it keeps the machine well-formed.
 -- Assumes nothing.
 use mathlib.Core.Path.{_≡_, refl, sym, ap, _∙_, subst}
-use mathlib.Core.Bool.{Bool, true, false, cond, true≢false, false≢true}
+use mathlib.Core.Bool.{Bool, true, cond}
 use mathlib.Core.Logic.{_≢_, _⊎_, inl, inr}
-use mathlib.Core.List.{List, [], _∷_, map, tail}
-use mathlib.Core.Option.{Option, none, some}
-use Prim.Native.Nat.{ℕ, zero, suc, _+_, _≤_, _<_}
+use mathlib.Core.List.{List, [], _∷_, tail}
+use mathlib.Core.Option.{some}
+use Prim.Native.Nat.{ℕ, _≤_, _<_}
 use native.Mathlib.Omega.{arith}
 use lib.Dec.{ltb}
-use lib.ListN.{length, getD}
-use borrow.Author.Tests.{ltb-true, ltb-false, lt-ltb, le-ltb}
-use Rattle.rules.specs.Lists.{occ, In, place, Falling, below, select, any, best, insertBefore, delete}
-use Rattle.rules.specs.Machine.{Machine, taskOf, prioOf, row, flag, head, running, rowLevel, level, levelOf, allowed, runnable, taskPlaces}
-use Rattle.rules.specs.Machine.{queued, enqueue, dequeue, withRow}
+use lib.ListN.{length}
+use borrow.Author.Tests.{lt-ltb}
+use Rattle.rules.specs.Lists.{occ, In, Falling, below, insertBefore, delete}
+use Rattle.rules.specs.Machine.{Machine, taskOf, prioOf, row, flag, head, running, rowLevel, level, levelOf, allowed, taskPlaces}
+use Rattle.rules.specs.Machine.{queued, enqueue, dequeue}
 use Rattle.rules.specs.WellFormed.{WellFormed}
-use Rattle.rules.specs.Migration.{Move, Chosen, waiting, allowedCpus, lower, movable, movables, outranks, mover, idler, destination, orZero, moveOf, nextOf, next, migrate}
-use Rattle.rules.proofs.Lists.{same?, occ-cons, digit-same, in-here, in-there, in-cons, not-in-nil, in-delete, delete-behind, in-below, below-in, select-in, in-select}
-use Rattle.rules.proofs.Lists.{any-some, some-any, in-tails, tails-in, falling-head, best-in, best-best, best-none, best-some}
-use Rattle.rules.proofs.Order.{place-there, place-from, place-select, place-tails, best-first}
+use Rattle.rules.specs.Migration.{Move, Chosen, waiting, movable, migrate}
+use Rattle.rules.proofs.Lists.{same?, occ-cons, digit-same, in-cons, not-in-nil, in-delete, delete-behind}
+use Rattle.rules.proofs.Lists.{in-tails, tails-in}
+use Rattle.rules.proofs.Choice.{movable-by, movable-one}
 use Rattle.rules.proofs.Rows.{row-same, row-other}
-use Rattle.rules.proofs.Apart.{in-row, once, runnable-place, runnable-fit, Apart, room}
+use Rattle.rules.proofs.Apart.{once, runnable-place, runnable-fit, room}
 use Rattle.rules.proofs.Effects.{keep-move, apart-home}
-
--- ---- allowed CPUs
-
-pub allowed-in : (m : Machine) (t c : ℕ) → In c (allowedCpus m t) → (c < m .n) × (allowed m t c ≡ true)
-allowed-in m t c i =
-    let s : (In c (below (m .n))) × (allowed m t c ≡ true) = select-in (allowed m t) c (below (m .n)) i in
-    (below-in (m .n) c (s .0), s .1)
-
-pub in-allowed : (m : Machine) (t c : ℕ) → c < m .n → allowed m t c ≡ true → In c (allowedCpus m t)
-in-allowed m t c h a = in-select (allowed m t) c (below (m .n)) (in-below (m .n) c h) a
-
-pub movable-by : (m : Machine) (t c : ℕ) → c < m .n → allowed m t c ≡ true → level m c < levelOf (prioOf m t) → movable m t ≡ true
-movable-by m t c h a l = some-any (lower m t) c (allowedCpus m t) (in-allowed m t c h a) (omega (arith, lt-ltb))
-
--- ---- who moves, and where to
-
-in-row-of-tail : (x : ℕ) (r : List ℕ) → In x (tail r) → In x r
-in-row-of-tail x [] i = i
-in-row-of-tail x (y ∷ ys) i = in-there x y ys i
-
--- a waiting task waits in the row of its CPU, and in no other
-wait-row : (m : Machine) (u : ℕ) → WellFormed m → In u (waiting m) → In u (tail (row m (taskOf m u .cpu)))
-wait-row m u w i =
-    let f : (c : ℕ) × (c < length (m .rows)) × (In u (tail (row m c))) = tails-in u (m .rows) i in
-    subst (λ (c : ℕ). In u (tail (row m c))) (sym (in-row m u (f .0) w (in-row-of-tail u (row m (f .0)) (f .2)) .1)) (f .2)
-
-wait-only : (m : Machine) (u c : ℕ) → WellFormed m → In u (tail (row m c)) → c ≡ taskOf m u .cpu
-wait-only m u c w i = sym (in-row m u c w (in-row-of-tail u (row m c) i) .1)
-
--- behind the first, places in a row are those in its tail, and one more
-place-tail : (x : ℕ) (r : List ℕ) → In x (tail r) → occ x r ≤ 1 → place x r ≡ suc (place x (tail r))
-place-tail x [] i h = absurd (not-in-nil x i)
-place-tail x (y ∷ ys) i h = place-there x y ys (λ e. omega (arith, occ-cons x y ys, digit-same x y e))
-
--- ---- the order in which movers are chosen
-
-module _ (m : Machine) where
-  higher : ℕ → ℕ → Type 0
-  higher x y = prioOf m y ≤ prioOf m x
-
-  higher-trans : (x y z : ℕ) → higher x y → higher y z → higher x z
-  unfolding higher
-  higher-trans x y z p q = omega arith
-
-  higher-won : (x y : ℕ) → outranks m y x ≡ true → higher y x
-  unfolding higher
-  higher-won x y h = omega (arith, ltb-true)
-
-  higher-lost : (x y : ℕ) → outranks m y x ≡ false → higher x y
-  unfolding higher
-  higher-lost x y h = omega (arith, ltb-false)
-
-  higher-self : (x : ℕ) → higher x x
-  unfolding higher
-  higher-self x = omega arith
-
-  higher-strict : (x y z : ℕ) → outranks m x y ≡ true → higher y z → outranks m x z ≡ true
-  unfolding higher
-  higher-strict x y z h p = omega (arith, ltb-true, lt-ltb)
-
-  higher-up : (x y z : ℕ) → higher x y → outranks m y z ≡ true → outranks m x z ≡ true
-  unfolding higher
-  higher-up x y z p h = omega (arith, ltb-true, lt-ltb)
-
-  not-higher : (x y : ℕ) → prioOf m x ≤ prioOf m y → outranks m x y ≡ false
-  not-higher x y h = omega (arith, le-ltb)
-
-  -- ---- and destinations
-
-  emptier : ℕ → ℕ → Type 0
-  emptier c d = level m c ≤ level m d
-
-  emptier-trans : (x y z : ℕ) → emptier x y → emptier y z → emptier x z
-  unfolding emptier
-  emptier-trans x y z p q = omega arith
-
-  emptier-won : (x y : ℕ) → idler m y x ≡ true → emptier y x
-  unfolding emptier
-  emptier-won x y h = omega (arith, ltb-true)
-
-  emptier-lost : (x y : ℕ) → idler m y x ≡ false → emptier x y
-  unfolding emptier
-  emptier-lost x y h = omega (arith, ltb-false)
-
-  emptier-self : (x : ℕ) → emptier x x
-  unfolding emptier
-  emptier-self x = omega arith
-
-  emptier-strict : (x y z : ℕ) → idler m x y ≡ true → emptier y z → idler m x z ≡ true
-  unfolding emptier
-  emptier-strict x y z h p = omega (arith, ltb-true, lt-ltb)
-
-  emptier-up : (x y z : ℕ) → emptier x y → idler m y z ≡ true → idler m x z ≡ true
-  unfolding emptier
-  emptier-up x y z p h = omega (arith, ltb-true, lt-ltb)
-
-  not-emptier : (x y : ℕ) → level m y ≤ level m x → idler m x y ≡ false
-  not-emptier x y h = omega (arith, le-ltb)
-
-chosen-of : (m : Machine) → WellFormed m → (t : ℕ) → mover m ≡ some t → Chosen m (moveOf m t)
-unfolding higher emptier
-chosen-of m w t e =
-    record {
-      runs = place-of .0;
-      origin = refl;
-      waits = waits;
-      moves = picked .1;
-      highest = λ u i h.
-          best-best (outranks m) (higher m) (higher-trans m) (higher-won m) (higher-lost m) (higher-self m) (movables m) t u e
-          (in-select (movable m) u (waiting m) i h);
-      lowest-cpu = λ u i h p. ordered u i h p .0;
-      earliest = λ u i h p s. in-same-row u i (ordered u i h p .1) s;
-      small = target-in .0;
-      may = target-in .1;
-      below = strict;
-      lowest = λ c h a. lowest c (in-allowed m t c h a);
-      nearest = λ c h a l. nearest c h a l;
-    }
-  where
-    picked : (In t (waiting m)) × (movable m t ≡ true)
-    picked =
-        select-in (movable m) t (waiting m)
-        (best-in (outranks m) (higher m) (higher-trans m) (higher-won m) (higher-lost m) (higher-self m) (movables m) t e)
-
-    waits : In t (tail (row m (taskOf m t .cpu)))
-    waits = wait-row m t w (picked .0)
-
-    place-of : (taskOf m t .state ≡ runnable) × (taskOf m t .cpu ≡ taskOf m t .cpu)
-    place-of = in-row m t (taskOf m t .cpu) w (in-row-of-tail t (row m (taskOf m t .cpu)) waits)
-
-    -- it is listed before its equals
-    ordered : (u : ℕ) → In u (waiting m) → movable m u ≡ true → prioOf m t ≤ prioOf m u
-        → (taskOf m t .cpu ≤ taskOf m u .cpu)
-        × (taskOf m t .cpu ≡ taskOf m u .cpu → place t (tail (row m (taskOf m t .cpu))) ≤ place u (tail (row m (taskOf m t .cpu))))
-    ordered u i h p =
-        place-tails t u (taskOf m t .cpu) (taskOf m u .cpu) (m .rows) waits (wait-row m u w i) (λ c j. wait-only m t c w j) (λ c j. wait-only m u c w j)
-        (place-select (movable m) t u (waiting m) (picked .1) h
-        (best-first (outranks m) (higher m) (higher-trans m) (higher-won m) (higher-lost m) (higher-self m) (higher-strict m) (higher-up m)
-        (movables m) t u e (in-select (movable m) u (waiting m) i h) (not-higher m t u p)))
-
-    in-same-row : (u : ℕ) → In u (waiting m)
-        → (taskOf m t .cpu ≡ taskOf m u .cpu → place t (tail (row m (taskOf m t .cpu))) ≤ place u (tail (row m (taskOf m t .cpu))))
-        → taskOf m u .cpu ≡ taskOf m t .cpu → place t (row m (taskOf m t .cpu)) ≤ place u (row m (taskOf m t .cpu))
-    in-same-row u i f s =
-        let j : In u (tail (row m (taskOf m t .cpu))) = subst (λ (c : ℕ). In u (tail (row m c))) s (wait-row m u w i) in
-        omega (
-          arith,
-          f (sym s),
-          place-tail t (row m (taskOf m t .cpu)) waits (once m t (taskOf m t .cpu) w),
-          place-tail u (row m (taskOf m t .cpu)) j (once m u (taskOf m t .cpu) w),
-        )
-
-    lower-one : (c : ℕ) × (In c (allowedCpus m t)) × (lower m t c ≡ true)
-    lower-one = any-some (lower m t) (allowedCpus m t) (picked .1)
-
-    target : (d : ℕ) × (best (idler m) (allowedCpus m t) ≡ some d)
-    target = best-some (idler m) (allowedCpus m t) (lower-one .0) (lower-one .1)
-
-    is-target : best (idler m) (allowedCpus m t) ≡ some (destination m t)
-    is-target = target .1 ∙ ap (λ (d : ℕ). some d) (ap orZero (sym (target .1)))
-
-    target-listed : In (destination m t) (allowedCpus m t)
-    target-listed =
-        best-in (idler m) (emptier m) (emptier-trans m) (emptier-won m) (emptier-lost m) (emptier-self m) (allowedCpus m t) (destination m t) is-target
-
-    target-in : (destination m t < m .n) × (allowed m t (destination m t) ≡ true)
-    target-in = allowed-in m t (destination m t) target-listed
-
-    lowest : (c : ℕ) → In c (allowedCpus m t) → level m (destination m t) ≤ level m c
-    lowest c i =
-        best-best (idler m) (emptier m) (emptier-trans m) (emptier-won m) (emptier-lost m) (emptier-self m) (allowedCpus m t) (destination m t) c is-target i
-
-    nearest : (c : ℕ) → c < m .n → allowed m t c ≡ true → level m c ≤ level m (destination m t) → destination m t ≤ c
-    nearest c h a l =
-        place-from 0 (m .n) (destination m t) c (in-below (m .n) (destination m t) (target-in .0)) (in-below (m .n) c h)
-        (place-select (allowed m t) (destination m t) c (Rattle.rules.specs.Lists.below (m .n)) (target-in .1) a
-        (best-first (idler m) (emptier m) (emptier-trans m) (emptier-won m) (emptier-lost m) (emptier-self m) (emptier-strict m) (emptier-up m)
-        (allowedCpus m t) (destination m t) c is-target (in-allowed m t c h a) (not-emptier m (destination m t) c l)))
-
-    strict : level m (destination m t) < levelOf (prioOf m t)
-    strict =
-        let l : level m (destination m t) ≤ level m (lower-one .0) = lowest (lower-one .0) (lower-one .1) in
-        let test : lower m t (lower-one .0) ≡ true = lower-one .2 in
-        omega (arith, ltb-true)
-
-pub chosen : (m : Machine) (v : Move) → WellFormed m → next m ≡ some v → Chosen m v
-unfolding next
-chosen m v w e = go (mover m) refl e
-  where
-    go : (o : Option ℕ) → mover m ≡ o → nextOf m o ≡ some v → Chosen m v
-    go none h e = absurd (let z : _≡_ {A = ℕ} 0 1 = cc in omega arith)
-    go (some t) h e = let s : moveOf m t ≡ v = cc in subst (Chosen m) s (chosen-of m w t h)
-
--- no step: no waiting task is movable
-pub none-movable : (m : Machine) (u : ℕ) → next m ≡ none → In u (waiting m) → movable m u ≡ false
-unfolding next
-none-movable m u e i = go (mover m) refl e
-  where
-    no : (b : Bool) → movable m u ≡ b → mover m ≡ none → movable m u ≡ false
-    no true h n = absurd (best-none (outranks m) (movables m) u n (in-select (movable m) u (waiting m) i h))
-    no false h n = h
-
-    go : (o : Option ℕ) → mover m ≡ o → nextOf m o ≡ none → movable m u ≡ false
-    go none h e = no (movable m u) refl h
-    go (some t) h e = absurd (let z : _≡_ {A = ℕ} 0 1 = cc in omega arith)
 
 -- ---- what a level says
 
@@ -392,18 +187,10 @@ Cap m p = (u : ℕ) → In u (waiting m) → movable m u ≡ true → prioOf m u
 pub cap-step : (m : Machine) (v : Move) → WellFormed m → Chosen m v → Cap (migrate v m) (prioOf m (v .task))
 cap-step m v w k u i h = go (waits-now m v w k u i)
   where
-    lower-one : (c : ℕ) × (In c (allowedCpus m u)) × (lower (migrate v m) u c ≡ true)
-    lower-one = any-some (lower (migrate v m) u) (allowedCpus m u) h
-
-    c : ℕ
-    c = lower-one .0
-
     before : movable m u ≡ true
     before =
-        let a : (c < m .n) × (allowed m u c ≡ true) = allowed-in m u c (lower-one .1) in
-        let test : lower (migrate v m) u c ≡ true = lower-one .2 in
-        let l : level (migrate v m) c < levelOf (prioOf m u) = omega (arith, ltb-true) in
-        movable-by m u c (a .0) (a .1) (omega (arith, levels-rise m v w k c))
+        let f : (c : ℕ) × (c < m .n) × (allowed m u c ≡ true) × (level (migrate v m) c < levelOf (prioOf m u)) = movable-one (migrate v m) u h in
+        movable-by m u (f .0) (f .1) (f .2) (omega (arith, levels-rise m v w k (f .0), f .3))
 
     go : In u (waiting m) ⊎ (running m (v .target) ≡ some u) → prioOf m u ≤ prioOf m (v .task)
     go (inl j) = k .highest u j before

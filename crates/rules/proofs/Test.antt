@@ -1,26 +1,26 @@
 -- The test and the record of propositions say the same: a machine passes the test exactly if it is well-formed.
 -- Assumes nothing.
 use mathlib.Core.Path.{_≡_, refl, sym, ap, _∙_, subst}
-use mathlib.Core.Bool.{Bool, true, false, cond, _&&_, _||_, true≢false, false≢true}
-use mathlib.Core.Logic.{_≢_, _⊎_, inl, inr}
+use mathlib.Core.Bool.{Bool, true, false, cond, _&&_, _||_}
+use mathlib.Core.Logic.{_⊎_, inl, inr}
 use mathlib.Core.List.{List, [], _∷_}
-use Prim.Native.Nat.{ℕ, zero, suc, _+_, _≤_, _<_, _^_, zero-le}
+use Prim.Native.Nat.{ℕ, zero, suc, _+_, _≤_, _<_}
 use native.Mathlib.Nat.{not-suc-le-zero, le-of-suc-le-suc, zero-lt-suc}
 use native.Mathlib.Omega.{arith}
 use lib.Dec.{eqb, leb, ltb}
 use lib.ListN.{length, getD, List·getD-eq-default}
-use borrow.Author.Tests.{eqb-true, eqb-false, eq-eqb, ne-eqb, leb-true, leb-false, le-leb, ltb-true, ltb-false, lt-ltb}
+use borrow.Author.Tests.{eqb-true, eq-eqb, ne-eqb, leb-true, le-leb, ltb-true, ltb-false, lt-ltb}
 use Rattle.rules.specs.Lists.{occ, In, Falling, each}
-use Rattle.rules.specs.Machine.{Machine, Task, taskOf, freeTask, prioOf, row, flag, allowed, free, asleep, runnable, fifo, rr, taskPlaces, cpuPlaces}
+use Rattle.rules.specs.Machine.{Machine, Task, taskOf, freeTask, prioOf, row, flag, allows, free, asleep, runnable, fifo, rr, taskPlaces, cpuPlaces}
 use Rattle.rules.specs.Machine.{lowestPriority, highestPriority, fullSlice}
 use Rattle.rules.specs.WellFormed.{Shape, Fit, Sound, is-free, is-asleep, is-runnable, standing, WellFormed}
 use Rattle.rules.specs.WellFormed.{shaped, gathered, tasks, zeros, fits, soundTask, falls, soundRow, wellFormed}
 use Rattle.cpupri.specs.Found.{sizeFits}
 use Rattle.bits.proofs.Tests.{and-both}
 use Rattle.rules.proofs.Bools.{both}
-use Rattle.rules.proofs.Accept.{mask-good, good-mask}
-use Rattle.rules.proofs.Lists.{same?, in-here, in-there, in-cons, not-in-nil, occ-nil}
-use Rattle.rules.proofs.Apart.{standing-home, standing-away, standing-idle, standing-means, standing-le, no-task, in-row, row-in, runnable-fit}
+use Rattle.rules.proofs.Checks.{mask-good, good-mask}
+use Rattle.rules.proofs.Lists.{in-here, in-there, in-cons, not-in-nil}
+use Rattle.rules.proofs.Apart.{standing-home, standing-means, no-task, in-row}
 
 -- ---- walks
 
@@ -188,18 +188,18 @@ fit-fits n τ f =
 
 -- what the test says of a task besides W1 and W2: a runnable one stands once in the row of its CPU, which is allowed
 abbrev Placed : Machine → ℕ → Task → Type 0
-Placed m t τ = τ .state ≡ runnable → (occ t (row m (τ .cpu)) ≡ 1) × (allowed m t (τ .cpu) ≡ true)
+Placed m t τ = τ .state ≡ runnable → (occ t (row m (τ .cpu)) ≡ 1) × (allows m (τ .mask) (τ .cpu) ≡ true)
 
 task-sound : (m : Machine) (t : ℕ) (τ : Task) → soundTask m t τ ≡ true → Sound (m .n) τ × Placed m t τ
 task-sound m t τ h = go (eqb (τ .state) free) refl h
   where
     place : Bool
-    place = eqb (τ .state) runnable && eqb (occ t (row m (τ .cpu))) 1 && allowed m t (τ .cpu)
+    place = eqb (τ .state) runnable && eqb (occ t (row m (τ .cpu))) 1 && allows m (τ .mask) (τ .cpu)
 
     state : (b : Bool) → eqb (τ .state) asleep ≡ b → fits (m .n) τ ≡ true → (b || place) ≡ true → Sound (m .n) τ × Placed m t τ
     state true e f p = (is-asleep (eqb-true (τ .state) asleep e) (fits-fit (m .n) τ f), λ r. absurd (omega (arith, eqb-true (τ .state) asleep e)))
     state false e f p =
-        let a = both (eqb (τ .state) runnable && eqb (occ t (row m (τ .cpu))) 1) (allowed m t (τ .cpu)) p in
+        let a = both (eqb (τ .state) runnable && eqb (occ t (row m (τ .cpu))) 1) (allows m (τ .mask) (τ .cpu)) p in
         let b = both (eqb (τ .state) runnable) (eqb (occ t (row m (τ .cpu))) 1) (a .0) in (
           is-runnable (eqb-true (τ .state) runnable (b .0)) (fits-fit (m .n) τ f),
           λ r. (eqb-true (occ t (row m (τ .cpu))) 1 (b .1), a .1),

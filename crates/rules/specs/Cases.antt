@@ -1,9 +1,8 @@
 -- The marked examples K1 to K12: for each the events before, the last event, and all that is then seen. Tasks are FIFO unless said.
 -- Assumes nothing.
-use mathlib.Core.Path.{_≡_, refl}
-use mathlib.Core.Bool.{Bool, true, false, cond}
+use mathlib.Core.Bool.{cond}
 use mathlib.Core.List.{List, [], _∷_, _++_, map}
-use Prim.Native.Nat.{ℕ, zero, suc, _+_, _-_, _^_}
+use Prim.Native.Nat.{ℕ, _-_, _^_}
 use lib.ListN.{replicate}
 use Rattle.cpupri.specs.Found.{sizeFits}
 use Rattle.rules.specs.Lists.{below}

@@ -1,7 +1,7 @@
 -- The three public entries over what the caller lends: make a fresh machine, check, and event. Each gives its answer and all that it hands
 -- back, on a refusal too.
 -- Assumes nothing.
-use mathlib.Core.Bool.{Bool, not}
+use mathlib.Core.Bool.{not}
 use mathlib.Core.List.{List, [], _∷_}
 use Prim.Native.Nat.{ℕ, zero, suc}
 use lib.ListN.{replicate}

@@ -1,12 +1,12 @@
 -- Events: nine kinds, and what each does by itself. Levels follow at once, since they are a function of the machine.
 -- Assumes nothing.
-use mathlib.Core.Bool.{Bool, true, false, cond}
+use mathlib.Core.Bool.{cond}
 use mathlib.Core.List.{List, [], _∷_}
 use mathlib.Core.Option.{Option, none, some}
-use Prim.Native.Nat.{ℕ, zero, suc, _+_, _-_}
+use Prim.Native.Nat.{ℕ, zero, suc, _-_}
 use lib.Dec.{eqb}
 use lib.ListN.{getElem?}
-use Rattle.rules.specs.Machine.{Machine, Task, Column, taskOf, freeTask, row, free, asleep, runnable, rr, fullSlice}
+use Rattle.rules.specs.Machine.{Machine, Task, Column, taskOf, freeTask, row, asleep, runnable, rr, fullSlice}
 use Rattle.rules.specs.Machine.{store, write, withFlag, enqueue, dequeue, requeue, allows, lowestAllowed}
 
 -- five numbers; those that a kind does not use are ignored

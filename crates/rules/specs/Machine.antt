@@ -1,9 +1,9 @@
 -- The machine: N CPUs, 512 task places, a run queue for each CPU, and the level that each CPU has by what it runs.
 -- Assumes nothing.
-use mathlib.Core.Bool.{Bool, true, false, cond}
+use mathlib.Core.Bool.{Bool}
 use mathlib.Core.List.{List, [], _∷_, _++_, map}
 use mathlib.Core.Option.{Option, none, some}
-use Prim.Native.Nat.{ℕ, zero, suc, _+_, _-_}
+use Prim.Native.Nat.{ℕ, _-_}
 use lib.Dec.{ltb}
 use lib.ListN.{getD, set, replicate}
 use Rattle.bits.specs.Bit.{bit, first}
@@ -149,126 +149,33 @@ lowestAllowed m k = first (allows m k) (m .n)
 
 -- ---- changing a machine
 
+-- all parts of a machine, in their order
+abbrev pub build : ℕ → List ℕ → List ℕ → List ℕ → List ℕ → List ℕ → List ℕ → List (List ℕ) → List ℕ → Machine
+build n ss ps qs cs ls ks rs fs = record { n = n; state = ss; policy = ps; prio = qs; cpu = cs; slice = ls; mask = ks; rows = rs; flags = fs }
+
 pub data Column : Type 0 where
   state policy prio cpu slice mask : Column
 
 -- task t's entry in one column becomes v
 abbrev pub store : Column → ℕ → ℕ → Machine → Machine
-store state t v m =
-    record {
-      n = m .n;
-      state = set (m .state) t v;
-      policy = m .policy;
-      prio = m .prio;
-      cpu = m .cpu;
-      slice = m .slice;
-      mask = m .mask;
-      rows = m .rows;
-      flags = m .flags;
-    }
-store policy t v m =
-    record {
-      n = m .n;
-      state = m .state;
-      policy = set (m .policy) t v;
-      prio = m .prio;
-      cpu = m .cpu;
-      slice = m .slice;
-      mask = m .mask;
-      rows = m .rows;
-      flags = m .flags;
-    }
-store prio t v m =
-    record {
-      n = m .n;
-      state = m .state;
-      policy = m .policy;
-      prio = set (m .prio) t v;
-      cpu = m .cpu;
-      slice = m .slice;
-      mask = m .mask;
-      rows = m .rows;
-      flags = m .flags;
-    }
-store cpu t v m =
-    record {
-      n = m .n;
-      state = m .state;
-      policy = m .policy;
-      prio = m .prio;
-      cpu = set (m .cpu) t v;
-      slice = m .slice;
-      mask = m .mask;
-      rows = m .rows;
-      flags = m .flags;
-    }
-store slice t v m =
-    record {
-      n = m .n;
-      state = m .state;
-      policy = m .policy;
-      prio = m .prio;
-      cpu = m .cpu;
-      slice = set (m .slice) t v;
-      mask = m .mask;
-      rows = m .rows;
-      flags = m .flags;
-    }
-store mask t v m =
-    record {
-      n = m .n;
-      state = m .state;
-      policy = m .policy;
-      prio = m .prio;
-      cpu = m .cpu;
-      slice = m .slice;
-      mask = set (m .mask) t v;
-      rows = m .rows;
-      flags = m .flags;
-    }
+store state t v m = build (m .n) (set (m .state) t v) (m .policy) (m .prio) (m .cpu) (m .slice) (m .mask) (m .rows) (m .flags)
+store policy t v m = build (m .n) (m .state) (set (m .policy) t v) (m .prio) (m .cpu) (m .slice) (m .mask) (m .rows) (m .flags)
+store prio t v m = build (m .n) (m .state) (m .policy) (set (m .prio) t v) (m .cpu) (m .slice) (m .mask) (m .rows) (m .flags)
+store cpu t v m = build (m .n) (m .state) (m .policy) (m .prio) (set (m .cpu) t v) (m .slice) (m .mask) (m .rows) (m .flags)
+store slice t v m = build (m .n) (m .state) (m .policy) (m .prio) (m .cpu) (set (m .slice) t v) (m .mask) (m .rows) (m .flags)
+store mask t v m = build (m .n) (m .state) (m .policy) (m .prio) (m .cpu) (m .slice) (set (m .mask) t v) (m .rows) (m .flags)
 
 -- task t's entry in every column
 abbrev pub write : ℕ → Task → Machine → Machine
 write t τ m =
-    record {
-      n = m .n;
-      state = set (m .state) t (τ .state);
-      policy = set (m .policy) t (τ .policy);
-      prio = set (m .prio) t (τ .prio);
-      cpu = set (m .cpu) t (τ .cpu);
-      slice = set (m .slice) t (τ .slice);
-      mask = set (m .mask) t (τ .mask);
-      rows = m .rows;
-      flags = m .flags;
-    }
+    build (m .n) (set (m .state) t (τ .state)) (set (m .policy) t (τ .policy)) (set (m .prio) t (τ .prio)) (set (m .cpu) t (τ .cpu))
+    (set (m .slice) t (τ .slice)) (set (m .mask) t (τ .mask)) (m .rows) (m .flags)
 
 abbrev pub withRow : ℕ → List ℕ → Machine → Machine
-withRow c r m =
-    record {
-      n = m .n;
-      state = m .state;
-      policy = m .policy;
-      prio = m .prio;
-      cpu = m .cpu;
-      slice = m .slice;
-      mask = m .mask;
-      rows = set (m .rows) c r;
-      flags = m .flags;
-    }
+withRow c r m = build (m .n) (m .state) (m .policy) (m .prio) (m .cpu) (m .slice) (m .mask) (set (m .rows) c r) (m .flags)
 
 abbrev pub withFlag : ℕ → ℕ → Machine → Machine
-withFlag c b m =
-    record {
-      n = m .n;
-      state = m .state;
-      policy = m .policy;
-      prio = m .prio;
-      cpu = m .cpu;
-      slice = m .slice;
-      mask = m .mask;
-      rows = m .rows;
-      flags = set (m .flags) c b;
-    }
+withFlag c b m = build (m .n) (m .state) (m .policy) (m .prio) (m .cpu) (m .slice) (m .mask) (m .rows) (set (m .flags) c b)
 
 -- ---- entering and leaving a row
 

@@ -2,10 +2,9 @@
 -- whether it fails, and its number. The finder's mask check is the events' too.
 -- Assumes nothing.
 use mathlib.Core.Path.{_≡_}
-use mathlib.Core.Bool.{Bool, true, false, cond, _&&_, _||_, not}
+use mathlib.Core.Bool.{Bool, true, false, _&&_, _||_, not}
 use mathlib.Core.List.{List, [], _∷_}
-use mathlib.Core.Option.{Option, none, some}
-use Prim.Native.Nat.{ℕ, zero, suc}
+use Prim.Native.Nat.{ℕ}
 use lib.Dec.{eqb, leb}
 pub use Rattle.cpupri.specs.Found.{Check}
 unfoldable pub use Rattle.cpupri.specs.Found.{refusal as firstFailing}

@@ -2,15 +2,15 @@
 -- the record that `levels m` determines. W3's counts and places are about the stored rows; of the rows as lists they follow from W4.
 -- Assumes nothing.
 use mathlib.Core.Path.{_≡_}
-use mathlib.Core.Bool.{Bool, true, false, cond, _&&_, _||_, not}
+use mathlib.Core.Bool.{Bool, true, cond, _&&_, _||_}
 use mathlib.Core.List.{List, [], _∷_}
-use Prim.Native.Nat.{ℕ, zero, suc, _≤_, _<_, _^_}
+use Prim.Native.Nat.{ℕ, _≤_, _<_, _^_}
 use lib.Dec.{eqb, leb, ltb}
 use lib.ListN.{length}
 use Rattle.bits.specs.Bit.{digit}
 use Rattle.cpupri.specs.Found.{sizeFits, maskFits}
-use Rattle.rules.specs.Lists.{occ, In, Falling, each}
-use Rattle.rules.specs.Machine.{Machine, Task, taskOf, freeTask, prioOf, row, flag, allowed, free, asleep, runnable, fifo, rr, taskPlaces, cpuPlaces}
+use Rattle.rules.specs.Lists.{occ, Falling, each}
+use Rattle.rules.specs.Machine.{Machine, Task, taskOf, freeTask, prioOf, row, flag, allows, allowed, free, asleep, runnable, fifo, rr, taskPlaces, cpuPlaces}
 use Rattle.rules.specs.Machine.{lowestPriority, highestPriority, fullSlice}
 
 -- ---- as propositions
@@ -96,7 +96,7 @@ fits n τ =
 abbrev pub soundTask : Machine → ℕ → Task → Bool
 soundTask m t τ =
     cond (eqb (τ .state) free) (zeros τ)
-    (fits (m .n) τ && (eqb (τ .state) asleep || (eqb (τ .state) runnable && eqb (occ t (row m (τ .cpu))) 1 && allowed m t (τ .cpu))))
+    (fits (m .n) τ && (eqb (τ .state) asleep || (eqb (τ .state) runnable && eqb (occ t (row m (τ .cpu))) 1 && allows m (τ .mask) (τ .cpu))))
 
 -- W5, neighbour by neighbour
 unfoldable pub falls : (ℕ → ℕ) → List ℕ → Bool

@@ -1,20 +1,20 @@
 -- Refusals: an event is accepted exactly if every check of its kind passes; and what the checks say once they pass.
 -- Assumes nothing.
-use mathlib.Core.Path.{_≡_, refl, sym, ap, _∙_, subst}
-use mathlib.Core.Bool.{Bool, true, false, cond, _&&_, _||_, not, true≢false}
-use mathlib.Core.Logic.{_≢_, _⊎_, inl, inr}
+use mathlib.Core.Path.{_≡_, refl, ap, _∙_}
+use mathlib.Core.Bool.{Bool, true, false, cond, _&&_, _||_, not}
+use mathlib.Core.Logic.{_⊎_, inl, inr}
 use mathlib.Core.List.{List, [], _∷_}
 use mathlib.Core.Option.{Option, none, some}
 use Prim.Native.Nat.{ℕ, zero, suc, _≤_, _<_, _^_}
 use native.Mathlib.Omega.{arith}
 use lib.Dec.{eqb, leb, ltb}
-use borrow.Author.Tests.{eqb-true, eqb-false, leb-true, leb-false, ltb-true, lt-ltb, not-false}
-use Rattle.rules.specs.Machine.{Machine, taskPlaces}
+use borrow.Author.Tests.{eqb-true, leb-true, leb-false, ltb-true, lt-ltb, not-false}
+use Rattle.rules.specs.Machine.{Machine}
 use Rattle.rules.specs.Events.{Event, Kind, kindOf, byKind, effect, effectOf}
 use Rattle.rules.specs.Events.{add, remove, wake, sleep, set-priority, set-affinity, tick, yield, set-ordinary}
 use Rattle.cpupri.specs.Found.{maskFits}
 use Rattle.rules.specs.Refusals.{Check, firstFailing, Passes, checks, refusal, unknownKind}
-use Rattle.rules.specs.Outcome.{Outcome, outcome, answered, accepted, refused}
+use Rattle.rules.specs.Outcome.{outcome, answered, accepted, refused}
 use Rattle.bits.proofs.Tests.{and-both}
 use Rattle.rules.proofs.Bools.{both}
 
