@@ -5,3 +5,4 @@ pub mod Sound
 pub mod Standing
 pub mod Whole
 pub mod Filling
+pub mod Answers

@@ -1,6 +1,6 @@
 -- A test that says whether a statement holds: giving one, and reading it.
 -- Assumes nothing.
-use mathlib.Core.Path.{_≡_, refl, sym, _∙_}
+use mathlib.Core.Path.{_≡_, refl, sym}
 use mathlib.Core.Bool.{Bool, true, false, false≢true}
 use Rattle.checker.specs.Says.{Says}
 

@@ -1,35 +1,35 @@
 -- What the passes decide together: the tables fit exactly if rows, columns and record pass.
 -- Assumes nothing.
-use mathlib.Core.Path.{_≡_, refl, sym, ap, ap₂, _∙_, subst}
-use mathlib.Core.Bool.{Bool, true, false, cond, _&&_, _||_, false≢true}
+use mathlib.Core.Path.{_≡_, refl, sym, ap, _∙_, subst}
+use mathlib.Core.Bool.{Bool, true, false, cond, _&&_, _||_}
 use mathlib.Core.Logic.{_≢_, _⊎_, inl, inr}
 use mathlib.Core.List.{List, [], _∷_}
-use Prim.Native.Nat.{ℕ, zero, suc, _+_, _-_, _*_, _≤_, _<_}
-use native.Mathlib.Nat.{not-suc-le-zero, le-of-suc-le-suc, zero-lt-suc}
+use Prim.Native.Nat.{ℕ, zero, suc, _+_, _*_, _≤_, _<_}
+use native.Mathlib.Nat.{not-suc-le-zero, zero-lt-suc}
 use native.Mathlib.Omega.{arith}
 use lib.Dec.{eqb, leb, ltb}
-use lib.ListN.{length, getD, take, drop, length-drop, List·getD-eq-default}
+use lib.ListN.{length, getD, drop, length-drop, List·getD-eq-default}
 use lib.Seq.{length-take-le, getD-take, getD-drop, take-take, ext-getD}
-use borrow.Author.Tests.{eqb-true, eqb-false, eq-eqb, ne-eqb, leb-true, le-leb, ltb-true, ltb-false, lt-ltb, le-ltb}
+use borrow.Author.Tests.{eqb-true, eq-eqb, le-leb, ltb-true, ltb-false, lt-ltb, le-ltb}
 use Rattle.bits.specs.Bit.{bit, digit}
 use Rattle.bits.proofs.Tests.{and-both}
 use Rattle.cpupri.specs.Consistent.{consistent, levelsFit, agrees, same}
 use Rattle.cpupri.specs.declared.record.Record.{Record}
 use Rattle.cpupri.proofs.Agrees.{same-is, is-same, fit-at, fits-above}
-use Rattle.rules.specs.Lists.{occ, In, Falling, each}
-use Rattle.rules.specs.Machine.{Machine, Task, taskOf, freeTask, prioOf, row, flag, rowLevel, level, levels, allows, free, asleep, runnable, taskPlaces, cpuPlaces, highestPriority}
+use Rattle.rules.specs.Lists.{occ, In, each}
+use Rattle.rules.specs.Machine.{Machine, Task, taskOf, freeTask, prioOf, row, flag, rowLevel, levels, free, asleep, runnable, taskPlaces, cpuPlaces, highestPriority}
 use Rattle.rules.specs.WellFormed.{Shape, Fit, WellFormed, standing, zeros, fits, soundTask, soundRow, falls, tasks, wellFormed}
-use Rattle.rules.specs.Tables.{Tables, machineOf, rowsOf, Stored, storedRows, recordFits, tablesFit, nothing}
+use Rattle.rules.specs.Tables.{Tables, machineOf, Stored, storedRows, recordFits, tablesFit}
 use Rattle.rules.proofs.Bools.{both}
-use Rattle.rules.proofs.Lists.{same?, digit-same, occ-nil, in-getD}
+use Rattle.rules.proofs.Lists.{same?, occ-nil, in-getD}
 use Rattle.rules.proofs.Apart.{standing-home, standing-away, standing-means, standing-le, in-row, runnable-fit}
 use Rattle.rules.proofs.Test.{each-at, at-each, each-in, tasks-length, tasks-at, shape-shaped, test-well-formed}
 use Rattle.rules.proofs.Tables.{row-at, test-stored, stored-test}
 use Rattle.rules.proofs.Record.{length-levels, levels-below, levels-above}
 use Rattle.runqueue.proofs.Places.{falling-at}
-use Rattle.checker.specs.Placed.{marked, mark, above, Stands, Row, Rows, part, queue, standings, taskAt, soundWhen, Columns}
+use Rattle.checker.specs.Placed.{marked, mark, above, Rows, part, queue, standings, soundWhen, Columns}
 use Rattle.checker.proofs.Marking.{digit-le}
-use Rattle.checker.proofs.Standing.{standings-none, standings-next, standings-grows}
+use Rattle.checker.proofs.Standing.{standings-next, standings-grows}
 
 -- ---- tests
 

@@ -48,7 +48,17 @@ pub fn check(
         return 1;
     }
     if !tables_fit(
-        n, state, policy, prio, cpu, slice, mask, rows, counts, flags, record,
+        n,
+        state,
+        policy,
+        prio,
+        cpu,
+        slice,
+        mask,
+        rows,
+        counts,
+        flags,
+        record,
     ) {
         return 2;
     }

@@ -49,7 +49,14 @@ pub fn columns_fit(
     while t < PLACES {
         let placed = marks::has(marks, t);
         if !task_fits(
-            placed, n, state[t], policy[t], prio[t], cpu[t], slice[t], mask[t],
+            placed,
+            n,
+            state[t],
+            policy[t],
+            prio[t],
+            cpu[t],
+            slice[t],
+            mask[t],
         ) {
             return false;
         }

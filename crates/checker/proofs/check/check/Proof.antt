@@ -1,30 +1,45 @@
+-- `checker::check::check` meets its contract. Assumes nothing.
 use borrow.Author.Needs.{needs}
+use mathlib.Core.Path.{sym, _∙_}
+use mathlib.Core.Bool.{true, false}
+use borrow.Author.Tests.{not-true, not-false}
+use Rattle.checker.specs.Lent.{lent, sizesFit}
+use Rattle.rules.proofs.Entry.{lengths-shape}
+use Rattle.checker.proofs.Answers.{checked-size, checked-form}
 use Rattle.checker.proofs.check.check.Statement.{statement}
 use Rattle.checker.proofs.check.check.Tie as tie
-use Rattle.checker.proofs.check.check.Reads as reads
-use Rattle.checker.proofs.check.check.Lts as lts
-use Rattle.checker.proofs.check.tables_fit.Reads as tables-fit-reads
-use Rattle.checker.proofs.sizes.lengths_fit.Reads as lengths-fit-reads
 
--- src/check.rt:35:9
 lengths-fit-requires : tie.Need-lengths-fit-requires
 lengths-fit-requires c κs = search needs
 
--- src/check.rt:48:9
 returns : tie.Need-returns
-returns c = ?
+unfolding sizesFit
+returns c =
+    let a = c .before .before .before .before .before .before .before .before .before .before .before .before .args in
+    sym (checked-size (a .n) (a .«record») (lent (a .state .now) (a .policy .now) (a .prio .now) (a .cpu .now) (a .slice .now) (a .mask .now) (a .rows .now) (a .counts .now) (a .flags .now) (a .log .now)) (sym (c .before .lengths-fit .ensures) ∙ not-true (c .before .lengths-fit .result) (c .if1 .taken)))
 
--- src/check.rt:50:9
 tables-fit-requires : tie.Need-tables-fit-requires
-tables-fit-requires c κs = ?
+unfolding sizesFit
+tables-fit-requires c κs =
+    let a = c .before .before .before .before .before .before .before .before .before .before .before .before .args in
+    let l = lengths-shape (a .n) (lent (a .state .now) (a .policy .now) (a .prio .now) (a .cpu .now) (a .slice .now) (a .mask .now) (a .rows .now) (a .counts .now) (a .flags .now) (a .log .now)) (sym (c .before .lengths-fit .ensures) ∙ not-false (c .before .lengths-fit .result) (c .if1 .left)) in
+    (l .0, (l .1, l .2))
 
--- src/check.rt:53:9
 returns-2 : tie.Need-returns-2
-returns-2 c = ?
+unfolding sizesFit
+returns-2 c =
+    let a = c .before .before .before .before .before .before .before .before .before .before .before .before .before .before .args in
+    sym
+    (checked-form (a .n) (a .«record») (lent (a .state .now) (a .policy .now) (a .prio .now) (a .cpu .now) (a .slice .now) (a .mask .now) (a .rows .now) (a .counts .now) (a .flags .now) (a .log .now)) (sym (c .before .before .before .lengths-fit .ensures) ∙ not-false (c .before .before .before .lengths-fit .result) (c .before .before .if1 .left)) false
+    (sym (c .before .tables-fit .ensures) ∙ not-true (c .before .tables-fit .result) (c .if2 .taken)))
 
--- src/check.rt:19:1
 returns-3 : tie.Need-returns-3
-returns-3 c = ?
+unfolding sizesFit
+returns-3 c =
+    let a = c .before .before .before .before .before .before .before .before .before .before .before .before .before .before .args in
+    sym
+    (checked-form (a .n) (a .«record») (lent (a .state .now) (a .policy .now) (a .prio .now) (a .cpu .now) (a .slice .now) (a .mask .now) (a .rows .now) (a .counts .now) (a .flags .now) (a .log .now)) (sym (c .before .before .before .lengths-fit .ensures) ∙ not-false (c .before .before .before .lengths-fit .result) (c .before .before .if1 .left)) true
+    (sym (c .before .tables-fit .ensures) ∙ not-false (c .before .tables-fit .result) (c .if2 .left)))
 
 pub check-spec : {M : Type 1} → statement M
 check-spec =

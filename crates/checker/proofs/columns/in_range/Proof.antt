@@ -1,7 +1,7 @@
 -- `checker::columns::in_range` meets its contract. Assumes nothing.
 use borrow.Author.Needs.{needs}
-use mathlib.Core.Path.{_≡_, refl, sym, ap, ap₂, _∙_, subst}
-use mathlib.Core.Bool.{Bool, true, false, cond, not, _&&_, _||_, false≢true}
+use mathlib.Core.Path.{ap}
+use mathlib.Core.Bool.{Bool, _&&_}
 use lib.Dec.{leb, ltb}
 use Rattle.checker.specs.Placed.{rangesFit}
 use Rattle.checker.proofs.columns.in_range.Statement.{statement}

@@ -1,13 +1,11 @@
 -- `checker::columns::task_fits` meets its contract. Assumes nothing.
 use borrow.Author.Needs.{needs}
-use mathlib.Core.Path.{_≡_, refl, sym, ap, ap₂, _∙_, subst}
-use mathlib.Core.Bool.{Bool, true, false, cond, not, _&&_, _||_, false≢true}
-use Prim.Native.Nat.{ℕ, zero, suc, _+_, _-_, _*_, _/_, _%_, _≤_, _<_}
+use mathlib.Core.Path.{sym, ap, _∙_}
+use mathlib.Core.Bool.{Bool, _&&_, _||_}
 use native.Mathlib.Omega.{arith}
-use borrow.Author.Tests.{ltb-true, leb-true, leb-false, eqb-true, eqb-false, eq-eqb, ne-eqb, le-leb, lt-ltb, not-true, not-false}
+use borrow.Author.Tests.{not-true, not-false}
 use lib.Dec.{eqb}
-use Rattle.rules.specs.Machine.{Task}
-use Rattle.checker.specs.Placed.{task, rangesFit, soundWhen}
+use Rattle.checker.specs.Placed.{task, rangesFit}
 use Rattle.checker.proofs.Sound.{sound-free, sound-out, sound-in, fits-cpu}
 use Rattle.checker.proofs.columns.task_fits.Statement.{statement}
 use Rattle.checker.proofs.columns.task_fits.Tie as tie

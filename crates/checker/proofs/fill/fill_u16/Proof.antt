@@ -1,9 +1,8 @@
 -- `checker::fill::fill_u16` meets its contract. The loop's invariant: the places passed hold the value, the others what they held.
 -- Assumes nothing.
-use borrow.Author.Needs.{needs}
-use mathlib.Core.Path.{_≡_, refl, sym, ap, ap₂, _∙_, subst}
-use Prim.Native.Nat.{ℕ, zero, suc, _+_, _-_, _*_, _/_, _%_, _≤_, _<_}
-use mathlib.Core.List.{List, [], _∷_, _++_}
+use mathlib.Core.Path.{_≡_, refl, ap, _∙_}
+use Prim.Native.Nat.{ℕ, _-_, _≤_}
+use mathlib.Core.List.{List, _++_}
 use native.Mathlib.Omega.{arith}
 use lib.ListN.{length, set, drop, replicate, length-set}
 use borrow.Author.Fill.{fill-more}
@@ -36,8 +35,7 @@ loop-again : tie.Need-loop-again Inv-loop μ-loop
 loop-again c =
     let l = c .before .loop in
     let t = c .before .before .args .table .now in
-    let v = c .before .before .args .value in
-    (
+    let v = c .before .before .args .value in (
       omega arith,
       length-set (l .table) (l .i) v ∙ l .inv .1,
       ap (λ (x : List ℕ). set x (l .i) v) (l .inv .2) ∙ fill-more (l .i) v t (omega arith),

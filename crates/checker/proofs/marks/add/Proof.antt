@@ -1,15 +1,15 @@
 -- `checker::marks::add` meets its contract. Assumes nothing.
 use borrow.Author.Needs.{needs}
-use mathlib.Core.Path.{_≡_, refl, sym, ap, ap₂, _∙_, subst}
-use mathlib.Core.Bool.{Bool, true, false, cond, not, _&&_, _||_, false≢true}
-use Prim.Native.Nat.{ℕ, zero, suc, _+_, _-_, _*_, _/_, _%_, _≤_, _<_}
-use lib.ListN.{length, getD, set, take, drop}
+use mathlib.Core.Path.{_≡_, sym, ap, _∙_}
+use mathlib.Core.Bool.{false, not}
+use Prim.Native.Nat.{ℕ, _/_, _%_, _<_}
+use lib.ListN.{length, getD, set}
 use native.Mathlib.Omega.{arith}
 use Rattle.checker.specs.Placed.{marked, mark}
 use Rattle.checker.proofs.Saying.{never}
 use Rattle.checker.proofs.Marking.{mark-more}
 use lib.ListN.{length-set}
-use Rattle.bits.specs.Bit.{bit, withBit}
+use Rattle.bits.specs.Bit.{bit}
 use Rattle.checker.proofs.marks.add.Statement.{statement}
 use Rattle.checker.proofs.marks.add.Tie as tie
 
@@ -42,11 +42,9 @@ returns-2 c =
     let marks = a .marks .now in
     let size : length marks ≡ 8 = c .before .before .before .before .pre .0 in
     let task : a .task < 512 = omega arith in
-    let free : bit (getD marks (a .task / 64) 0) (a .task % 64) ≡ false = sym (c .before .before .test-bit .ensures) ∙ c .before .if1 .left in
-    (
+    let free : bit (getD marks (a .task / 64) 0) (a .task % 64) ≡ false = sym (c .before .before .test-bit .ensures) ∙ c .before .if1 .left in (
       ap not (sym free),
-      λ e.
-      (
+      λ e. (
         length-set marks (a .task / 64) (c .set-bit .result) ∙ size,
         λ u. ap (λ (w : ℕ). mark (set marks (a .task / 64) w) u) (c .set-bit .ensures) ∙ mark-more marks (a .task) (omega arith) free u,
       ),

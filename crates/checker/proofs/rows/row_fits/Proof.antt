@@ -1,15 +1,12 @@
 -- `checker::rows::row_fits` meets its contract. Assumes nothing.
 use borrow.Author.Needs.{needs}
-use mathlib.Core.Path.{_≡_, refl, sym, ap, ap₂, _∙_, subst}
-use mathlib.Core.Bool.{Bool, true, false, cond, not, _&&_, _||_, false≢true}
-use Prim.Native.Nat.{ℕ, zero, suc, _+_, _-_, _*_, _/_, _%_, _≤_, _<_}
-use lib.ListN.{length, getD, set, take, drop}
+use mathlib.Core.Path.{_≡_}
+use mathlib.Core.Bool.{true, _&&_}
 use native.Mathlib.Omega.{arith}
-use borrow.Author.Tests.{ltb-true, leb-true, leb-false, eqb-true, eqb-false, eq-eqb, ne-eqb, le-leb, lt-ltb, not-true, not-false}
+use borrow.Author.Tests.{leb-true, le-leb, not-true, not-false}
 use lib.Dec.{leb}
 use Rattle.bits.proofs.Tests.{and-both}
 use Rattle.rules.proofs.Bools.{both}
-use Rattle.checker.specs.Placed.{marked, mark, above, Stands, AllStand, Once, Marks, Unused, Row, Rows, part, queue, standings}
 use Rattle.checker.proofs.Saying.{say, yes, no, said, never}
 use Rattle.checker.proofs.rows.row_fits.Statement.{statement}
 use Rattle.checker.proofs.rows.row_fits.Tie as tie
@@ -41,25 +38,23 @@ returns-3 c =
     let u = c .before .unused in
     let l = c .level-fits in
     let ok : t .result ≡ true = not-false (t .result) (c .before .before .if2 .left) in
-    let good = yes (t .result) (t .ensures .0) ok in
-    (
+    let good = yes (t .result) (t .ensures .0) ok in (
       say (u .result && leb (a .flag) 1 && l .result)
-      (λ e.
-      let f = both (u .result && leb (a .flag) 1) (l .result) e in
-      let g = both (u .result) (leb (a .flag) 1) (f .0) in
-      (
-        record {
-          most = omega arith;
-          tasks = good .0;
-          rest = yes (u .result) (u .ensures) (g .0);
-          small = leb-true (a .flag) 1 (g .1);
-          right = yes (l .result) (l .ensures) (f .1);
-        },
-        good .1,
-      ))
-      (λ p.
-      and-both _ _ (and-both _ _ (said (u .result) (u .ensures) (p .0 .rest)) (le-leb (a .flag) 1 (p .0 .small)))
-      (said (l .result) (l .ensures) (p .0 .right))),
+          (λ e.
+          let f = both (u .result && leb (a .flag) 1) (l .result) e in
+          let g = both (u .result) (leb (a .flag) 1) (f .0) in (
+            record {
+              most = omega arith;
+              tasks = good .0;
+              rest = yes (u .result) (u .ensures) (g .0);
+              small = leb-true (a .flag) 1 (g .1);
+              right = yes (l .result) (l .ensures) (f .1);
+            },
+            good .1,
+          ))
+          (λ p.
+          and-both _ _ (and-both _ _ (said (u .result) (u .ensures) (p .0 .rest)) (le-leb (a .flag) 1 (p .0 .small)))
+          (said (l .result) (l .ensures) (p .0 .right))),
       λ e. t .ensures .1 ok,
     )
 

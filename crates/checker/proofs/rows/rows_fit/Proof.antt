@@ -1,19 +1,17 @@
 -- `checker::rows::rows_fit` meets its contract. The loop's invariant: the rows passed are right, and the set has the tasks that stand in
 -- them. Assumes nothing.
-use borrow.Author.Needs.{needs}
-use mathlib.Core.Path.{_≡_, refl, sym, ap, ap₂, _∙_, subst}
-use mathlib.Core.Bool.{Bool, true, false, cond, not, _&&_, _||_, false≢true}
-use Prim.Native.Nat.{ℕ, zero, suc, _+_, _-_, _*_, _/_, _%_, _≤_, _<_}
-use lib.ListN.{length, getD, set, take, drop}
-use mathlib.Core.List.{List, [], _∷_, _++_}
+use mathlib.Core.Path.{_≡_, refl, sym, ap, _∙_, subst}
+use mathlib.Core.Bool.{true}
+use Prim.Native.Nat.{ℕ, _+_, _-_, _*_, _≤_, _<_}
+use lib.ListN.{length, getD, drop}
+use mathlib.Core.List.{List}
 use native.Mathlib.Omega.{arith}
-use borrow.Author.Tests.{ltb-true, leb-true, leb-false, eqb-true, eqb-false, eq-eqb, ne-eqb, le-leb, lt-ltb, not-true, not-false}
+use borrow.Author.Tests.{not-true, not-false}
 use lib.ListN.{length-drop}
 use lib.Seq.{length-take-le}
 use borrow.Author.Count.{below-more}
-use Rattle.rules.specs.Lists.{occ}
-use Rattle.checker.specs.Placed.{marked, mark, above, Stands, AllStand, Once, Marks, Unused, Row, Rows, part, queue, standings}
-use Rattle.checker.proofs.Saying.{say, yes, no, said, never}
+use Rattle.checker.specs.Placed.{marked, mark, Once, Marks, Row, part, standings}
+use Rattle.checker.proofs.Saying.{yes, no, never}
 use Rattle.checker.proofs.Marking.{digit-le}
 use Rattle.checker.proofs.Standing.{mark-none, part-is, standings-none, standings-next, standings-grows}
 use Rattle.checker.proofs.rows.rows_fit.Statement.{statement}
@@ -80,13 +78,13 @@ returns c =
     let l = c .before .before .before .before .before .before .before .loop in
     let rows = c .before .before .before .before .before .before .before .before .before .before .before .before .before .before .args .rows .now in
     let counts = c .before .before .before .before .before .before .before .before .before .before .before .before .before .before .args .counts .now in
-    let call = c .before .row-fits in
-    (
+    let call = c .before .row-fits in (
       λ p.
-      no (call .result) (call .ensures .0) (not-true (call .result) (c .if1 .taken))
-      (subst (λ (r : List ℕ). Row (c .before .before .before .before .before .before .before .before .before .before .before .before .before .before .args .state .now) (c .before .before .before .before .before .before .before .before .before .before .before .before .before .before .args .prio .now) (c .before .before .before .before .before .before .before .before .before .before .before .before .before .before .args .cpu .now) (r) (c .before .before .before .before .before .before .before .loop .c) (getD (c .before .before .before .before .before .before .before .before .before .before .before .before .before .before .args .counts .now) (c .before .before .before .before .before .before .before .loop .c) 0) (getD (c .before .before .before .before .before .before .before .before .before .before .before .before .before .before .args .flags .now) (c .before .before .before .before .before .before .before .loop .c) 0) (getD (c .before .before .before .before .before .before .before .before .before .before .before .before .before .before .args .t8) (c .before .before .before .before .before .before .before .loop .c) 0)) (sym (part-is rows (l .c))) (p .row (l .c) (omega arith)),
-      subst (λ (r : List ℕ). Once (l .marks) r (getD counts (l .c) 0)) (sym (part-is rows (l .c)))
-      (λ u. omega (arith, l .inv .3 u, standings-next counts rows u (l .c), standings-grows counts rows u (l .c + 1) (c .before .before .before .before .before .before .before .before .before .before .before .before .before .before .args .n) (omega arith), p .once u))),
+          no (call .result) (call .ensures .0) (not-true (call .result) (c .if1 .taken)) (
+            subst (λ (r : List ℕ). Row (c .before .before .before .before .before .before .before .before .before .before .before .before .before .before .args .state .now) (c .before .before .before .before .before .before .before .before .before .before .before .before .before .before .args .prio .now) (c .before .before .before .before .before .before .before .before .before .before .before .before .before .before .args .cpu .now) (r) (c .before .before .before .before .before .before .before .loop .c) (getD (c .before .before .before .before .before .before .before .before .before .before .before .before .before .before .args .counts .now) (c .before .before .before .before .before .before .before .loop .c) 0) (getD (c .before .before .before .before .before .before .before .before .before .before .before .before .before .before .args .flags .now) (c .before .before .before .before .before .before .before .loop .c) 0) (getD (c .before .before .before .before .before .before .before .before .before .before .before .before .before .before .args .t8) (c .before .before .before .before .before .before .before .loop .c) 0)) (sym (part-is rows (l .c))) (p .row (l .c) (omega arith)),
+            subst (λ (r : List ℕ). Once (l .marks) r (getD counts (l .c) 0)) (sym (part-is rows (l .c)))
+                (λ u. omega (arith, l .inv .3 u, standings-next counts rows u (l .c), standings-grows counts rows u (l .c + 1) (c .before .before .before .before .before .before .before .before .before .before .before .before .before .before .args .n) (omega arith), p .once u)),
+          ),
       λ e. never e,
     )
 
@@ -104,8 +102,7 @@ loop-again c =
     let call = c .before .row-fits in
     let ok : call .result ≡ true = not-false (call .result) (c .if1 .left) in
     let good = yes (call .result) (call .ensures .0) ok in
-    let joined = subst (λ (r : List ℕ). Marks (l .marks) r (getD counts (l .c) 0) (c .before .row-fits .last .1 .1 .1 .1 .1 .1 .1 .1 .0)) (part-is rows (l .c)) (call .ensures .1 ok) in
-    (
+    let joined = subst (λ (r : List ℕ). Marks (l .marks) r (getD counts (l .c) 0) (c .before .row-fits .last .1 .1 .1 .1 .1 .1 .1 .1 .0)) (part-is rows (l .c)) (call .ensures .1 ok) in (
       omega arith,
       joined .0,
       below-more _ _ (l .inv .2) (subst (λ (r : List ℕ). Row (c .before .before .before .before .before .before .before .before .before .before .before .before .before .before .args .state .now) (c .before .before .before .before .before .before .before .before .before .before .before .before .before .before .args .prio .now) (c .before .before .before .before .before .before .before .before .before .before .before .before .before .before .args .cpu .now) (r) (c .before .before .before .before .before .before .before .loop .c) (getD (c .before .before .before .before .before .before .before .before .before .before .before .before .before .before .args .counts .now) (c .before .before .before .before .before .before .before .loop .c) 0) (getD (c .before .before .before .before .before .before .before .before .before .before .before .before .before .before .args .flags .now) (c .before .before .before .before .before .before .before .loop .c) 0) (getD (c .before .before .before .before .before .before .before .before .before .before .before .before .before .before .args .t8) (c .before .before .before .before .before .before .before .loop .c) 0)) (part-is rows (l .c)) (good .0)),
@@ -117,8 +114,7 @@ returns-2 c =
     let l = c .before .loop in
     let all : l .c ≡ c .before .before .before .before .before .before .before .before .args .n = omega arith in
     let counted : (u : ℕ) → mark (l .marks) u ≡ standings (c .before .before .before .before .before .before .before .before .args .counts .now) (c .before .before .before .before .before .before .before .before .args .rows .now) (c .before .before .before .before .before .before .before .before .args .n) u =
-        λ u. l .inv .3 u ∙ ap (λ (k : ℕ). standings (c .before .before .before .before .before .before .before .before .args .counts .now) (c .before .before .before .before .before .before .before .before .args .rows .now) k u) all in
-    (
+    λ u. l .inv .3 u ∙ ap (λ (k : ℕ). standings (c .before .before .before .before .before .before .before .before .args .counts .now) (c .before .before .before .before .before .before .before .before .args .rows .now) k u) all in (
       record { row = λ k h. l .inv .2 k (omega arith); once = λ u. omega (arith, counted u, digit-le (marked (l .marks) u)) },
       λ e. counted,
     )

@@ -1,21 +1,19 @@
 -- `checker::rows::tasks_stand` meets its contract. The loop's invariant: the tasks passed may stand where they do, they have joined the
 -- set, and `bound` is the priority of the last. Assumes nothing.
-use borrow.Author.Needs.{needs}
-use mathlib.Core.Path.{_≡_, refl, sym, ap, ap₂, _∙_, subst}
-use mathlib.Core.Bool.{Bool, true, false, cond, not, _&&_, _||_, false≢true}
-use Prim.Native.Nat.{ℕ, zero, suc, _+_, _-_, _*_, _/_, _%_, _≤_, _<_}
-use lib.ListN.{length, getD, set, take, drop}
-use mathlib.Core.List.{List, [], _∷_, _++_}
+use mathlib.Core.Path.{_≡_, refl, sym, ap, _∙_, subst}
+use mathlib.Core.Bool.{true}
+use Prim.Native.Nat.{ℕ, _+_, _-_, _≤_, _<_}
+use lib.ListN.{length, getD, take}
+use mathlib.Core.List.{List}
 use native.Mathlib.Omega.{arith}
-use borrow.Author.Tests.{ltb-true, leb-true, leb-false, eqb-true, eqb-false, eq-eqb, ne-eqb, le-leb, lt-ltb, not-true, not-false}
+use borrow.Author.Tests.{not-true, not-false}
 use native.Mathlib.Numerals.{add-one}
 use borrow.Author.Count.{below-more}
-use lib.Dec.{eqb}
 use Rattle.bits.specs.Bit.{digit}
 use Rattle.rules.specs.Lists.{occ}
 use Rattle.rules.proofs.Lists.{digit-same, occ-nil}
-use Rattle.checker.specs.Placed.{marked, mark, above, Stands, AllStand, Once, Marks, Unused, Row, Rows, part, queue, standings}
-use Rattle.checker.proofs.Saying.{say, yes, no, said, never}
+use Rattle.checker.specs.Placed.{marked, mark, above, Stands, AllStand, Marks}
+use Rattle.checker.proofs.Saying.{yes, no, never}
 use Rattle.checker.proofs.Marking.{digit-le, occ-take, occ-grows}
 use Rattle.checker.proofs.rows.tasks_stand.Statement.{statement}
 use Rattle.checker.proofs.rows.tasks_stand.Tie as tie
@@ -55,11 +53,10 @@ stands-requires c κs = c .before .before .before .before .before .before .befor
 
 returns : tie.Need-returns Inv-loop μ-loop
 returns c =
-    let l = c .before .before .before .before .loop in
-    (
+    let l = c .before .before .before .before .loop in (
       λ p.
-      no (c .before .stands .result) (c .before .stands .ensures) (not-true (c .before .stands .result) (c .if1 .taken))
-      (subst (λ (b : ℕ). Stands (c .before .before .before .before .before .before .before .before .before .args .state .now) (c .before .before .before .before .before .before .before .before .before .args .prio .now) (c .before .before .before .before .before .before .before .before .before .args .cpu .now) (c .before .before .before .before .before .before .before .before .before .args .c) b (getD (c .before .before .before .before .before .before .before .before .before .args .row .now) (l .i) 0)) (sym (l .inv .1)) (p .0 (l .i) (omega arith))),
+          no (c .before .stands .result) (c .before .stands .ensures) (not-true (c .before .stands .result) (c .if1 .taken))
+          (subst (λ (b : ℕ). Stands (c .before .before .before .before .before .before .before .before .before .args .state .now) (c .before .before .before .before .before .before .before .before .before .args .prio .now) (c .before .before .before .before .before .before .before .before .before .args .cpu .now) (c .before .before .before .before .before .before .before .before .before .args .c) b (getD (c .before .before .before .before .before .before .before .before .before .args .row .now) (l .i) 0)) (sym (l .inv .1)) (p .0 (l .i) (omega arith))),
       λ e. never e,
     )
 
@@ -74,8 +71,7 @@ returns-2 c =
     let row = c .before .before .before .before .before .before .before .before .before .before .before .before .args .row .now in
     let u = getD row (l .i) 0 in
     let there : marked (l .marks) u ≡ true =
-        not-false (marked (l .marks) u) (sym (c .before .add .ensures .0) ∙ not-true (c .before .add .result) (c .if2 .taken)) in
-    (
+    not-false (marked (l .marks) u) (sym (c .before .add .ensures .0) ∙ not-true (c .before .add .result) (c .if2 .taken)) in (
       λ p. twice (l .marks) (c .before .before .before .before .before .before .before .before .before .before .before .before .args .marks .now) row (l .i) (c .before .before .before .before .before .before .before .before .before .before .before .before .args .count) (omega arith) (omega arith) (l .inv .3 .1 u) there (p .1 u),
       λ e. never e,
     )
@@ -98,8 +94,7 @@ loop-again c =
     let row = c .before .before .before .before .before .before .before .before .before .before .before .before .before .args .row .now in
     let prio = c .before .before .before .before .before .before .before .before .before .before .before .before .before .args .prio .now in
     let s = yes (c .before .before .before .before .before .stands .result) (c .before .before .before .before .before .stands .ensures) (not-false (c .before .before .before .before .before .stands .result) (c .before .before .before .before .if1 .left)) in
-    let joined = c .before .before .add .ensures .1 (not-false (c .before .before .add .result) (c .before .if2 .left)) in
-    (
+    let joined = c .before .before .add .ensures .1 (not-false (c .before .before .add .result) (c .before .if2 .left)) in (
       omega arith,
       ap (above prio row) (sym (add-one (l .i))),
       below-more _ _ (l .inv .2) (subst (λ (b : ℕ). Stands (c .before .before .before .before .before .before .before .before .before .before .before .before .before .args .state .now) (c .before .before .before .before .before .before .before .before .before .before .before .before .before .args .prio .now) (c .before .before .before .before .before .before .before .before .before .before .before .before .before .args .cpu .now) (c .before .before .before .before .before .before .before .before .before .before .before .before .before .args .c) b (getD (c .before .before .before .before .before .before .before .before .before .before .before .before .before .args .row .now) (l .i) 0)) (l .inv .1) s),
@@ -111,8 +106,7 @@ returns-3 c =
     let l = c .before .loop in
     let all : l .i ≡ c .before .before .before .before .before .before .args .count = omega arith in
     let row = c .before .before .before .before .before .before .args .row .now in
-    let joined : Marks (c .before .before .before .before .before .before .args .marks .now) row (c .before .before .before .before .before .before .args .count) (l .marks) = subst (λ (k : ℕ). Marks (c .before .before .before .before .before .before .args .marks .now) row k (l .marks)) all (l .inv .3) in
-    (
+    let joined : Marks (c .before .before .before .before .before .before .args .marks .now) row (c .before .before .before .before .before .before .args .count) (l .marks) = subst (λ (k : ℕ). Marks (c .before .before .before .before .before .before .args .marks .now) row k (l .marks)) all (l .inv .3) in (
       (
         subst (λ (k : ℕ). AllStand (c .before .before .before .before .before .before .args .state .now) (c .before .before .before .before .before .before .args .prio .now) (c .before .before .before .before .before .before .args .cpu .now) (c .before .before .before .before .before .before .args .row .now) (c .before .before .before .before .before .before .args .c) k) all (l .inv .2),
         λ u. omega (arith, joined .1 u, digit-le (marked (l .marks) u)),
