@@ -14,6 +14,13 @@ use super::sizes::lengths_fit;
 use cpupri::consistent::is_consistent;
 use cpupri::record::Record;
 
+// Answers.
+pub const ACCEPTED: u8 = 0;
+
+pub const BAD_SIZE: u8 = 1;
+
+pub const ILL_FORMED: u8 = 2;
+
 // 0 for a well-formed machine, 1 if N or a length does not fit, 2 if anything that is stored is not as
 // W1 to W6 say. Nothing is written.
 pub fn check(
@@ -45,7 +52,7 @@ pub fn check(
         flags.len(),
         log.len(),
     ) {
-        return 1;
+        return BAD_SIZE;
     }
     if !tables_fit(
         n,
@@ -60,9 +67,9 @@ pub fn check(
         flags,
         record,
     ) {
-        return 2;
+        return ILL_FORMED;
     }
-    0
+    ACCEPTED
 }
 
 // W1 to W6 of tables that have their lengths; the log may hold anything.

@@ -4,6 +4,8 @@ ghost use lib.ListN.{length, replicate};
 ghost use Rattle.rules.specs.Entry.{kept, made};
 ghost use Rattle.rules.specs.Tables.{nothing};
 ghost use Rattle.checker.specs.Lent.{lent};
+use super::check::ACCEPTED;
+use super::check::BAD_SIZE;
 use super::columns::FREE;
 use super::fill::fill_u8;
 use super::fill::fill_u16;
@@ -49,13 +51,16 @@ pub fn make_fresh(
         flags.len(),
         log.len(),
     ) {
-        return Made { answer: 1, record };
+        return Made {
+            answer: BAD_SIZE,
+            record,
+        };
     }
     free_tasks(state, policy, prio, cpu, slice, mask);
     empty_rows(rows, counts, flags);
     fill_u16(log, NOTHING);
     Made {
-        answer: 0,
+        answer: ACCEPTED,
         record: Record::fresh(n),
     }
 }

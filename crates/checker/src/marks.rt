@@ -8,6 +8,8 @@ ghost use Rattle.bits.specs.Bit.{digit};
 ghost use Rattle.rules.specs.Machine.{taskPlaces};
 ghost use Rattle.checker.specs.Placed.{setWords, marked, mark};
 
+const BITS: usize = 64;
+
 pub const WORDS: usize = 8;
 
 // Puts a task into the set; false if it is there already.
@@ -17,12 +19,12 @@ pub fn add(marks: &mut [u64; WORDS], task: usize) -> bool
     ensures { λ b. ⌜ b ≡ not (marked (now (marks .entry)) task) ⌝ }
     ensures { λ b. ⌜ (b ≡ true → (length (now (marks .exit)) ≡ setWords) × ((u : ℕ) → mark (now (marks .exit)) u ≡ mark (now (marks .entry)) u + digit (eqb u task))) ⌝ }
 {
-    let word = task / 64;
+    let word = task / BITS;
     let old = marks[word];
-    if bits::test_bit(old, task % 64) {
+    if bits::test_bit(old, task % BITS) {
         return false;
     }
-    marks[word] = bits::set_bit(old, task % 64);
+    marks[word] = bits::set_bit(old, task % BITS);
     true
 }
 
@@ -31,5 +33,5 @@ pub fn has(marks: &[u64; WORDS], task: usize) -> bool
     requires { ⌜ task < taskPlaces ⌝ }
     ensures { λ b. ⌜ b ≡ marked (now (marks .entry)) task ⌝ }
 {
-    bits::test_bit(marks[task / 64], task % 64)
+    bits::test_bit(marks[task / BITS], task % BITS)
 }

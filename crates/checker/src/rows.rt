@@ -16,6 +16,9 @@ use runqueue::row::PLACES;
 // No priority is above this one.
 const TOP: u8 = 255;
 
+// A real-time task's level is its priority and this.
+const REAL_TIME: u16 = 2;
+
 // Whether the rows are right and, if so, the set of the tasks that stand in them.
 pub struct Placed {
     pub fit: bool,
@@ -158,5 +161,5 @@ fn level_fits(row: &[u16], count: usize, flag: u8, level: u8, prio: &[u8]) -> bo
     }
     let first = row[0] as usize;
     // in 16 bits, since a priority may be any byte here
-    (level as u16) == (prio[first] as u16) + 2
+    (level as u16) == (prio[first] as u16) + REAL_TIME
 }
