@@ -8,11 +8,11 @@ ghost use Rattle.rules.specs.WellFormed.{Shape};
 ghost use Rattle.rules.specs.Tables.{machineOf, tablesFit};
 ghost use Rattle.rules.specs.Entry.{checked};
 ghost use Rattle.checker.specs.Lent.{lent};
-use super::columns::columns_fit;
-use super::rows::rows_fit;
 use super::sizes::lengths_fit;
 use cpupri::consistent::is_consistent;
 use cpupri::record::Record;
+use wellformed::columns::columns_fit;
+use wellformed::rows::rows_fit;
 
 // Answers.
 pub const ACCEPTED: u8 = 0;

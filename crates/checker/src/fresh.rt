@@ -6,13 +6,13 @@ ghost use Rattle.rules.specs.Tables.{nothing};
 ghost use Rattle.checker.specs.Lent.{lent};
 use super::check::ACCEPTED;
 use super::check::BAD_SIZE;
-use super::columns::FREE;
 use super::fill::fill_u8;
 use super::fill::fill_u16;
 use super::fill::fill_u64;
 use super::sizes::lengths_fit;
 use cpupri::record::Record;
 use runqueue::row::NOTHING;
+use wellformed::columns::FREE;
 
 // The answer, and the record that comes back.
 pub struct Made {
