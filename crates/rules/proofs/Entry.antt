@@ -46,7 +46,7 @@ pub record Good (n : ℕ) (r : Record) (s : Tables) : Type 0 where
   pub levels : r ≡ recordOf (levels (machineOf n s))
 
 -- the lengths of the tables are the machine's
-lengths-shape : (n : ℕ) (s : Tables) → lengthsFit n s ≡ true
+pub lengths-shape : (n : ℕ) (s : Tables) → lengthsFit n s ≡ true
     → Shape (machineOf n s) × (length (s .rows) ≡ taskPlaces * n) × (length (s .counts) ≡ n) × (length (s .log) ≡ logPlaces)
 lengths-shape n s h =
     let a = both _ _ h in
@@ -78,7 +78,7 @@ lengths-shape n s h =
       eqb-true (length (s .log)) logPlaces (a .1),
     )
 
-shape-lengths : (n : ℕ) (s : Tables) → Shape (machineOf n s) → length (s .rows) ≡ taskPlaces * n → length (s .counts) ≡ n → length (s .log) ≡ logPlaces
+pub shape-lengths : (n : ℕ) (s : Tables) → Shape (machineOf n s) → length (s .rows) ≡ taskPlaces * n → length (s .counts) ≡ n → length (s .log) ≡ logPlaces
     → lengthsFit n s ≡ true
 shape-lengths n s p rows counts log =
     and-both _ _ (and-both _ _ (and-both _ _ (and-both _ _ (and-both _ _ (and-both _ _ (and-both _ _ (and-both _ _ (and-both _ _ (and-both _ _

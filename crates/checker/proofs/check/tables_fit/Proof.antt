@@ -1,0 +1,62 @@
+-- `checker::check::tables_fit` meets its contract. Assumes nothing.
+use borrow.Author.Needs.{needs}
+use mathlib.Core.Path.{_≡_, sym, _∙_}
+use mathlib.Core.Bool.{true, _&&_}
+use lib.ListN.{length}
+use mathlib.Core.List.{[]}
+use borrow.Author.Tests.{not-true, not-false}
+use Rattle.bits.proofs.Tests.{and-both, fails}
+use Rattle.rules.proofs.Bools.{both}
+use Rattle.rules.specs.Tables.{tablesFit}
+use Rattle.checker.specs.Lent.{lent}
+use Rattle.wellformed.proofs.Saying.{yes, no, said}
+use Rattle.wellformed.proofs.Whole.{decides, passes-fit, fit-rows, fit-columns, fit-consistent}
+use Rattle.checker.proofs.check.tables_fit.Statement.{statement}
+use Rattle.checker.proofs.check.tables_fit.Tie as tie
+
+sized : (c : tie.Start) → length (c .args .«record» .levels) ≡ 64
+sized c = search needs
+
+rows-fit-requires : tie.Need-rows-fit-requires
+rows-fit-requires c κs = search needs
+
+returns : tie.Need-returns
+returns c =
+    let a = c .before .before .before .before .before .before .before .before .before .before .before .before .before .args in
+    let p = c .before .before .before .before .before .before .before .before .before .before .before .before .before .pre in
+    let s = (lent (a .state .now) (a .policy .now) (a .prio .now) (a .cpu .now) (a .slice .now) (a .mask .now) (a .rows .now) (a .counts .now) (a .flags .now) []) in
+    let rows = c .before .before .rows-fit in
+    sym
+    (fails (tablesFit (a .n) (a .«record») s)
+    (λ e. no (rows .result .fit) (rows .ensures .0) (not-true (rows .result .fit) (c .if1 .taken)) (fit-rows (a .n) s (p .0) (p .1 .0) (p .1 .1) (a .«record») e)))
+
+columns-fit-requires : tie.Need-columns-fit-requires
+columns-fit-requires c κs = search needs
+
+is-consistent-requires : tie.Need-is-consistent-requires
+is-consistent-requires c κs = search needs
+
+returns-2 : tie.Need-returns-2
+returns-2 c =
+    let a = c .before .before .before .before .before .before .before .before .before .before .before .before .before .before .before .before .before .args in
+    let p = c .before .before .before .before .before .before .before .before .before .before .before .before .before .before .before .before .before .pre in
+    let s = (lent (a .state .now) (a .policy .now) (a .prio .now) (a .cpu .now) (a .slice .now) (a .mask .now) (a .rows .now) (a .counts .now) (a .flags .now) []) in
+    let rows = c .before .before .before .before .before .before .rows-fit in
+    let columns = c .before .columns-fit in
+    let own = c .is-consistent in
+    let fit : rows .result .fit ≡ true = not-false (rows .result .fit) (c .before .before .before .before .if1 .left) in
+    let levelled : length (a .«record» .levels) ≡ 64 = sized (c .before .before .before .before .before .before .before .before .before .before .before .before .before .before .before .before .before) in
+    decides (columns .result && own .result) (tablesFit (a .n) (a .«record») s)
+    (λ e.
+    let b = both (columns .result) (own .result) e in
+    passes-fit (a .n) s (p .0) (p .1 .0) (p .1 .1) (a .«record») levelled (rows .result .marks) (yes (rows .result .fit) (rows .ensures .0) fit)
+    (rows .ensures .1 fit) (yes (columns .result) (columns .ensures) (b .0)) (sym (own .ensures) ∙ b .1))
+    (λ e.
+    and-both (columns .result) (own .result)
+    (said (columns .result) (columns .ensures) (fit-columns (a .n) s (p .0) (p .1 .0) (p .1 .1) (a .«record») e (rows .result .marks) (rows .ensures .1 fit)))
+    (own .ensures ∙ fit-consistent (a .n) s (p .0) (p .1 .0) (p .1 .1) (a .«record») e))
+
+pub tables-fit-spec : {M : Type 1} → statement M
+tables-fit-spec =
+    tie.close
+    (tie.spec rows-fit-requires returns columns-fit-requires is-consistent-requires returns-2)

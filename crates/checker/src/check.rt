@@ -1,0 +1,101 @@
+// The check of lent tables: 0, 1 or 2.
+ghost use mathlib.Core.Path.{_≡_};
+ghost use mathlib.Core.List.{[]};
+ghost use Prim.Native.Nat.{_*_};
+ghost use lib.ListN.{length};
+ghost use Rattle.rules.specs.Machine.{taskPlaces};
+ghost use Rattle.rules.specs.WellFormed.{Shape};
+ghost use Rattle.rules.specs.Tables.{machineOf, tablesFit};
+ghost use Rattle.rules.specs.Entry.{checked};
+ghost use Rattle.checker.specs.Lent.{lent};
+use super::sizes::lengths_fit;
+use cpupri::consistent::is_consistent;
+use cpupri::record::Record;
+use wellformed::columns::columns_fit;
+use wellformed::rows::rows_fit;
+
+// Answers.
+pub const ACCEPTED: u8 = 0;
+
+pub const BAD_SIZE: u8 = 1;
+
+pub const ILL_FORMED: u8 = 2;
+
+// 0 for a well-formed machine, 1 if N or a length does not fit, 2 if anything that is stored is not as
+// W1 to W6 say. Nothing is written.
+pub fn check(
+    n: usize,
+    state: &[u8],
+    policy: &[u8],
+    prio: &[u8],
+    cpu: &[u8],
+    slice: &[u16],
+    mask: &[u64],
+    rows: &[u16],
+    counts: &[u16],
+    flags: &[u8],
+    log: &[u16],
+    record: Record,
+) -> u8
+    ensures { λ a. ⌜ a ≡ checked n «record» (lent (now (state .entry)) (now (policy .entry)) (now (prio .entry)) (now (cpu .entry)) (now (slice .entry)) (now (mask .entry)) (now (rows .entry)) (now (counts .entry)) (now (flags .entry)) (now (log .entry))) ⌝ }
+{
+    if !lengths_fit(
+        n,
+        state.len(),
+        policy.len(),
+        prio.len(),
+        cpu.len(),
+        slice.len(),
+        mask.len(),
+        rows.len(),
+        counts.len(),
+        flags.len(),
+        log.len(),
+    ) {
+        return BAD_SIZE;
+    }
+    if !tables_fit(
+        n,
+        state,
+        policy,
+        prio,
+        cpu,
+        slice,
+        mask,
+        rows,
+        counts,
+        flags,
+        record,
+    ) {
+        return ILL_FORMED;
+    }
+    ACCEPTED
+}
+
+// W1 to W6 of tables that have their lengths; the log may hold anything.
+pub fn tables_fit(
+    n: usize,
+    state: &[u8],
+    policy: &[u8],
+    prio: &[u8],
+    cpu: &[u8],
+    slice: &[u16],
+    mask: &[u64],
+    rows: &[u16],
+    counts: &[u16],
+    flags: &[u8],
+    record: Record,
+) -> bool
+    requires { ⌜ Shape (machineOf n (lent (now state) (now policy) (now prio) (now cpu) (now slice) (now mask) (now rows) (now counts) (now flags) [])) ⌝ }
+    requires { ⌜ length (now rows) ≡ taskPlaces * n ⌝ }
+    requires { ⌜ length (now counts) ≡ n ⌝ }
+    ensures { λ b. ⌜ b ≡ tablesFit n «record» (lent (now (state .entry)) (now (policy .entry)) (now (prio .entry)) (now (cpu .entry)) (now (slice .entry)) (now (mask .entry)) (now (rows .entry)) (now (counts .entry)) (now (flags .entry)) []) ⌝ }
+{
+    let levels = record.levels;
+    let placed = rows_fit(n, state, prio, cpu, rows, counts, flags, levels);
+    if !placed.fit {
+        return false;
+    }
+    let marks = placed.marks;
+    columns_fit(n, state, policy, prio, cpu, slice, mask, &marks) & is_consistent(n, record)
+}

@@ -1,0 +1,101 @@
+// A fresh machine in lent tables.
+ghost use mathlib.Core.Path.{_≡_};
+ghost use lib.ListN.{length, replicate};
+ghost use Rattle.rules.specs.Entry.{kept, made};
+ghost use Rattle.rules.specs.Tables.{nothing};
+ghost use Rattle.checker.specs.Lent.{lent};
+use super::check::ACCEPTED;
+use super::check::BAD_SIZE;
+use super::fill::fill_u8;
+use super::fill::fill_u16;
+use super::fill::fill_u64;
+use super::sizes::lengths_fit;
+use cpupri::record::Record;
+use runqueue::row::NOTHING;
+use wellformed::columns::FREE;
+
+// The answer, and the record that comes back.
+pub struct Made {
+    pub answer: u8,
+    pub record: Record,
+}
+
+// All places free, rows empty, flags 0, every log number 65535, whatever the tables held. Refused with
+// 1 if N or a length does not fit; then nothing changes and the record given comes back.
+pub fn make_fresh(
+    n: usize,
+    state: &mut [u8],
+    policy: &mut [u8],
+    prio: &mut [u8],
+    cpu: &mut [u8],
+    slice: &mut [u16],
+    mask: &mut [u64],
+    rows: &mut [u16],
+    counts: &mut [u16],
+    flags: &mut [u8],
+    log: &mut [u16],
+    record: Record,
+) -> Made
+    ensures { λ m. ⌜ kept (m .answer) (m .«record») (lent (now (state .exit)) (now (policy .exit)) (now (prio .exit)) (now (cpu .exit)) (now (slice .exit)) (now (mask .exit)) (now (rows .exit)) (now (counts .exit)) (now (flags .exit)) (now (log .exit))) ≡ made n «record» (lent (now (state .entry)) (now (policy .entry)) (now (prio .entry)) (now (cpu .entry)) (now (slice .entry)) (now (mask .entry)) (now (rows .entry)) (now (counts .entry)) (now (flags .entry)) (now (log .entry))) ⌝ }
+{
+    if !lengths_fit(
+        n,
+        state.len(),
+        policy.len(),
+        prio.len(),
+        cpu.len(),
+        slice.len(),
+        mask.len(),
+        rows.len(),
+        counts.len(),
+        flags.len(),
+        log.len(),
+    ) {
+        return Made {
+            answer: BAD_SIZE,
+            record,
+        };
+    }
+    free_tasks(state, policy, prio, cpu, slice, mask);
+    empty_rows(rows, counts, flags);
+    fill_u16(log, NOTHING);
+    Made {
+        answer: ACCEPTED,
+        record: Record::fresh(n),
+    }
+}
+
+// All places free: 0 in all their columns.
+fn free_tasks(
+    state: &mut [u8],
+    policy: &mut [u8],
+    prio: &mut [u8],
+    cpu: &mut [u8],
+    slice: &mut [u16],
+    mask: &mut [u64],
+)
+    ensures { λ u. ⌜ now (state .exit) ≡ replicate (length (now (state .entry))) 0 ⌝ }
+    ensures { λ u. ⌜ now (policy .exit) ≡ replicate (length (now (policy .entry))) 0 ⌝ }
+    ensures { λ u. ⌜ now (prio .exit) ≡ replicate (length (now (prio .entry))) 0 ⌝ }
+    ensures { λ u. ⌜ now (cpu .exit) ≡ replicate (length (now (cpu .entry))) 0 ⌝ }
+    ensures { λ u. ⌜ now (slice .exit) ≡ replicate (length (now (slice .entry))) 0 ⌝ }
+    ensures { λ u. ⌜ now (mask .exit) ≡ replicate (length (now (mask .entry))) 0 ⌝ }
+{
+    fill_u8(state, FREE);
+    fill_u8(policy, 0);
+    fill_u8(prio, 0);
+    fill_u8(cpu, 0);
+    fill_u16(slice, 0);
+    fill_u64(mask, 0);
+}
+
+// No task stands in a row, and no CPU has ordinary work.
+fn empty_rows(rows: &mut [u16], counts: &mut [u16], flags: &mut [u8])
+    ensures { λ u. ⌜ now (rows .exit) ≡ replicate (length (now (rows .entry))) nothing ⌝ }
+    ensures { λ u. ⌜ now (counts .exit) ≡ replicate (length (now (counts .entry))) 0 ⌝ }
+    ensures { λ u. ⌜ now (flags .exit) ≡ replicate (length (now (flags .entry))) 0 ⌝ }
+{
+    fill_u16(rows, NOTHING);
+    fill_u16(counts, 0);
+    fill_u8(flags, 0);
+}

@@ -1,0 +1,104 @@
+// The pass over the six task columns.
+ghost use mathlib.Core.Path.{_≡_};
+ghost use Prim.Native.Nat.{_≤_};
+ghost use lib.ListN.{length};
+ghost use Rattle.rules.specs.Machine.{taskPlaces, cpuPlaces};
+ghost use Rattle.wellformed.specs.Says.{Says};
+ghost use Rattle.wellformed.specs.Placed.{task, rangesFit, soundWhen, Columns};
+use super::marks;
+use super::marks::WORDS;
+use cpupri::find::mask_fits;
+use runqueue::row::PLACES;
+
+// States.
+pub const FREE: u8 = 0;
+
+pub const ASLEEP: u8 = 1;
+
+pub const RUNNABLE: u8 = 2;
+
+// Policies.
+pub const FIFO: u8 = 1;
+
+pub const RR: u8 = 2;
+
+// Priorities, and a full slice in ticks.
+pub const LOWEST: u8 = 1;
+
+pub const HIGHEST: u8 = 99;
+
+pub const FULL_SLICE: u16 = 100;
+
+// Each task in turn: W1 and W2, and a runnable one is in the set of those that stand in rows.
+pub fn columns_fit(
+    n: usize,
+    state: &[u8],
+    policy: &[u8],
+    prio: &[u8],
+    cpu: &[u8],
+    slice: &[u16],
+    mask: &[u64],
+    marks: &[u64; WORDS],
+) -> bool
+    requires { ⌜ n ≤ cpuPlaces ⌝ }
+    requires { ⌜ (length (now state) ≡ taskPlaces) × (length (now policy) ≡ taskPlaces) × (length (now prio) ≡ taskPlaces) ⌝ }
+    requires { ⌜ (length (now cpu) ≡ taskPlaces) × (length (now slice) ≡ taskPlaces) × (length (now mask) ≡ taskPlaces) ⌝ }
+    ensures { λ b. ⌜ Says b (Columns n (now (state .entry)) (now (policy .entry)) (now (prio .entry)) (now (cpu .entry)) (now (slice .entry)) (now (mask .entry)) (now (marks .entry))) ⌝ }
+{
+    let mut t = 0;
+    while t < PLACES {
+        let placed = marks::has(marks, t);
+        if !task_fits(
+            placed,
+            n,
+            state[t],
+            policy[t],
+            prio[t],
+            cpu[t],
+            slice[t],
+            mask[t],
+        ) {
+            return false;
+        }
+        t += 1;
+    }
+    true
+}
+
+// One task; `placed` says that it stands in a row.
+fn task_fits(
+    placed: bool,
+    n: usize,
+    state: u8,
+    policy: u8,
+    prio: u8,
+    cpu: u8,
+    slice: u16,
+    mask: u64,
+) -> bool
+    requires { ⌜ n ≤ cpuPlaces ⌝ }
+    ensures { λ b. ⌜ b ≡ soundWhen placed n (task state policy prio cpu slice mask) ⌝ }
+{
+    if state == FREE {
+        return (policy == 0) & (prio == 0) & (cpu == 0) & (slice == 0) & (mask == 0);
+    }
+    if !in_range(n, policy, prio, cpu, slice, mask) {
+        return false;
+    }
+    (state == ASLEEP) | ((state == RUNNABLE) & placed & bits::test_bit(mask, cpu as usize))
+}
+
+// W2 of one task.
+fn in_range(n: usize, policy: u8, prio: u8, cpu: u8, slice: u16, mask: u64) -> bool
+    requires { ⌜ n ≤ cpuPlaces ⌝ }
+    ensures { λ b. ⌜ b ≡ rangesFit n policy prio cpu slice mask ⌝ }
+{
+    (FIFO <= policy)
+        & (policy <= RR)
+        & (LOWEST <= prio)
+        & (prio <= HIGHEST)
+        & ((cpu as usize) < n)
+        & (1 <= slice)
+        & (slice <= FULL_SLICE)
+        & mask_fits(n, mask)
+}
