@@ -42,15 +42,18 @@ run-well-formed w out = w
 run-well-formed w (stop h) = w
 run-well-formed w (step {m = m} {v = v} h r) = run-well-formed (keep-step m v w (chosen m v w h)) r
 
+-- whatever one step leaves alone
+pub run-keeps : {A : Type 0} (f : Machine → A) → ((v : Move) (m : Machine) → f (migrate v m) ≡ f m)
+    → {k : ℕ} {m : Machine} {l : List Move} {e : Machine} → Run k m l e → f e ≡ f m
+run-keeps f h out = refl
+run-keeps f h (stop n) = refl
+run-keeps f h (step {m = m} {v = v} n r) = run-keeps f h r ∙ h v m
+
 pub run-prio : {k : ℕ} {m : Machine} {l : List Move} {e : Machine} → Run k m l e → e .prio ≡ m .prio
-run-prio out = refl
-run-prio (stop h) = refl
-run-prio (step h r) = run-prio r
+run-prio r = run-keeps (λ (m : Machine). m .prio) (λ v m. refl) r
 
 pub run-n : {k : ℕ} {m : Machine} {l : List Move} {e : Machine} → Run k m l e → e .n ≡ m .n
-run-n out = refl
-run-n (stop h) = refl
-run-n (step h r) = run-n r
+run-n r = run-keeps (λ (m : Machine). m .n) (λ v m. refl) r
 
 -- ---- priorities never rise along the log
 

@@ -21,12 +21,11 @@ use Rattle.rules.specs.Machine.{Machine, Task, taskOf, freeTask, prioOf, row, f
 use Rattle.rules.specs.WellFormed.{Shape, Fit, WellFormed, standing, zeros, fits, soundTask, soundRow, falls, tasks, wellFormed}
 use Rattle.rules.specs.Tables.{Tables, machineOf, Stored, storedRows, recordFits, tablesFit}
 use Rattle.rules.proofs.Bools.{both}
-use Rattle.rules.proofs.Lists.{same?, occ-nil, in-getD}
+use Rattle.rules.proofs.Lists.{same?, occ-nil, in-getD, falling-at}
 use Rattle.rules.proofs.Apart.{standing-home, standing-away, standing-means, standing-le, in-row, runnable-fit}
 use Rattle.rules.proofs.Test.{each-at, at-each, each-in, tasks-length, tasks-at, shape-shaped, test-well-formed}
 use Rattle.rules.proofs.Tables.{row-at, test-stored, stored-test}
 use Rattle.rules.proofs.Record.{length-levels, levels-below, levels-above}
-use Rattle.runqueue.proofs.Places.{falling-at}
 use Rattle.wellformed.specs.Placed.{marked, mark, above, Rows, part, queue, standings, soundWhen, Columns}
 use Rattle.wellformed.proofs.Marking.{digit-le}
 use Rattle.wellformed.proofs.Standing.{standings-next, standings-grows}
