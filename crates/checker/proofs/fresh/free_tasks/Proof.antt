@@ -22,25 +22,40 @@ fill-u64-requires : tie.Need-fill-u64-requires
 fill-u64-requires c κs = search needs
 
 same-length : tie.Need-same-length
-same-length c = search needs
+same-length c = c .before .before .before .before .before .before .before .before .before .before .before .before .before .before .before .before .before .before .before .before .before .before .fill-u8 .kept .0
 
 same-length-2 : tie.Need-same-length-2
-same-length-2 c = search needs
+same-length-2 c = c .before .before .before .before .before .before .before .before .before .before .before .before .before .before .before .before .before .before .fill-u82 .kept .0
 
 same-length-3 : tie.Need-same-length-3
-same-length-3 c = search needs
+same-length-3 c = c .before .before .before .before .before .before .before .before .before .before .before .before .before .before .fill-u83 .kept .0
 
 same-length-4 : tie.Need-same-length-4
-same-length-4 c = search needs
+same-length-4 c = c .before .before .before .before .before .before .before .before .before .before .fill-u84 .kept .0
 
 same-length-5 : tie.Need-same-length-5
-same-length-5 c = search needs
+same-length-5 c = c .before .before .before .before .before .before .fill-u16 .kept .0
 
 same-length-6 : tie.Need-same-length-6
-same-length-6 c = search needs
+same-length-6 c = c .before .before .fill-u64 .kept .0
 
 returns : tie.Need-returns
-returns c = (c .before .before .before .before .before .before .before .before .before .before .before .before .before .before .before .before .before .before .before .before .before .before .fill-u8 .ensures, (c .before .before .before .before .before .before .before .before .before .before .before .before .before .before .before .before .before .before .fill-u82 .ensures, (c .before .before .before .before .before .before .before .before .before .before .before .before .before .before .fill-u83 .ensures, (c .before .before .before .before .before .before .before .before .before .before .fill-u84 .ensures, (c .before .before .before .before .before .before .fill-u16 .ensures, c .before .before .fill-u64 .ensures)))))
+returns c = (
+  c .before .before .before .before .before .before .before .before .before .before .before .before .before .before .before .before .before .before .before .before .before .before .fill-u8 .ensures,
+  (
+    c .before .before .before .before .before .before .before .before .before .before .before .before .before .before .before .before .before .before .fill-u82 .ensures,
+    (
+      c .before .before .before .before .before .before .before .before .before .before .before .before .before .before .fill-u83 .ensures,
+      (
+        c .before .before .before .before .before .before .before .before .before .before .fill-u84 .ensures,
+        (
+          c .before .before .before .before .before .before .fill-u16 .ensures,
+          c .before .before .fill-u64 .ensures,
+        ),
+      ),
+    ),
+  ),
+)
 
 pub free-tasks-spec : {M : Type 1} → statement M
 free-tasks-spec =
