@@ -56,19 +56,11 @@ after-refused k e m h = go (firstFailing (checks m e k)) h
     go zero n = absurd (n refl)
     go (suc r) n = refl
 
--- what holds of the machine that is left
-module _ (k : Kind) (e : Event) (m : Machine) (P : Machine → Type 0) where
-  pub done : firstFailing (checks m e k) ≡ 0 → P (effectOf k e m) → P (after k e m)
-  done h p = subst P (sym (after-done k e m h)) p
-
-  pub kept : firstFailing (checks m e k) ≢ 0 → P m → P (after k e m)
-  kept h p = subst P (sym (after-refused k e m h)) p
-
 -- ---- the six columns
 
 module _ (k : Kind) (e : Event) (m : Machine) {ss ps qs cs ls ks : List ℕ} (l : Columns m ss ps qs cs ls ks) where
   pub columns-kept : firstFailing (checks m e k) ≢ 0 → Columns (after k e m) ss ps qs cs ls ks
-  columns-kept h = kept k e m (λ (x : Machine). Columns x ss ps qs cs ls ks) h l
+  columns-kept h = subst (λ (x : Machine). Columns x ss ps qs cs ls ks) (sym (after-refused k e m h)) l
 
   pub columns-written : (t : ℕ) (τ : Task) → firstFailing (checks m e k) ≡ 0 → effectOf k e m ≡ write t τ m
       → Columns (after k e m) (set ss t (τ .state)) (set ps t (τ .policy)) (set qs t (τ .prio)) (set cs t (τ .cpu)) (set ls t (τ .slice)) (set ks t (τ .mask))

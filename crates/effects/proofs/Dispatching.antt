@@ -14,12 +14,14 @@ use Rattle.cpupri.specs.Record.{recordOf}
 use Rattle.cpupri.specs.declared.record.Record.{Record}
 use Rattle.rules.specs.Machine.{Machine, Column, taskOf, row, levels, store, enqueue, dequeue, requeue, lowestAllowed, free, asleep, runnable, rr, fullSlice}
 use Rattle.rules.specs.Tables.{flatOf, rowCounts}
-use Rattle.rules.specs.Events.{Event, Kind, kindOf, byKind, effectOf, reprioritised, reaffined, tickedTask, ticked, toFirst}
+use Rattle.rules.specs.WellFormed.{WellFormed}
+use Rattle.rules.specs.Events.{Event, Kind, kindOf, byKind, effectOf, effect, reprioritised, reaffined, tickedTask, ticked, toFirst}
 use Rattle.rules.specs.Events.{add, remove, wake, sleep, set-priority, set-affinity, tick, yield, set-ordinary}
 use Rattle.rules.specs.Refusals.{firstFailing, checks, refusal, unknownKind}
 use Rattle.rules.proofs.Lists.{same?}
 use Rattle.rules.proofs.Apart.{apart-idle}
 use Rattle.rules.proofs.Checks.{no-kind, in-range}
+use Rattle.rules.proofs.Effects.{keep-effect}
 use Rattle.effects.specs.After.{after, applied, ifAccepted}
 use Rattle.effects.specs.Lent.{Columns, Queues, Placed, LentAll, Answered, LentAdd, LentRemove, Written, LentWake, Woken, LentSleep, Slept}
 use Rattle.effects.specs.Lent.{LentPriority, Reprioritised, LentAffinity, Reaffined, LentTick, Ticked, LentYield, Yielded, LentOrdinary, Flagged}
@@ -46,6 +48,15 @@ module _ (m : Machine) (e : Event) where
   pub applied-unknown : kindOf (e .kind) ≡ none → applied e m ≡ m
   unfolding applied
   applied-unknown named = ap byName named
+
+-- the machine that an event leaves is well-formed
+pub applied-formed : (m : Machine) (e : Event) → WellFormed m → WellFormed (applied e m)
+unfolding applied
+applied-formed m e w = go (refusal m e) refl
+  where
+    go : (r : ℕ) → refusal m e ≡ r → WellFormed (ifAccepted r (effect e m) m)
+    go zero z = keep-effect m e w z
+    go (suc r) z = w
 
 further : (k j : ℕ) → j < k → k ≢ suc j → suc j < k
 further k j h n = omega arith

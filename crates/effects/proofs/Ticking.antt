@@ -61,9 +61,6 @@ module _ (m : Machine) (c : ℕ) where
   pub ticked-first : (t : ℕ) (ts : List ℕ) → row m c ≡ t ∷ ts → ticked c m ≡ tickedTask t c m
   ticked-first t ts e = ap (toFirst (λ (t : ℕ). tickedTask t c m) m) e
 
-  pub yielded-empty : row m c ≡ [] → yielded c m ≡ m
-  yielded-empty e = ap (toFirst (λ (t : ℕ). requeue t c m) m) e
-
   pub yielded-first : (t : ℕ) (ts : List ℕ) → row m c ≡ t ∷ ts → yielded c m ≡ requeue t c m
   yielded-first t ts e = ap (toFirst (λ (t : ℕ). requeue t c m) m) e
 

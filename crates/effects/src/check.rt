@@ -1,5 +1,4 @@
-// The checks of each kind that takes more than one, in the paper's order. The answer is the number of
-// the first that fails, or 0.
+// Checks of task events, in the paper's order. The answer is the number of the first that fails, or 0.
 ghost use mathlib.Core.Path.{_≡_};
 ghost use mathlib.Core.Bool.{_&&_, _||_};
 ghost use Prim.Native.Nat.{ℕ, _≤_};
@@ -7,7 +6,7 @@ ghost use lib.Dec.{eqb, leb};
 ghost use lib.ListN.{length};
 ghost use Rattle.cpupri.specs.Level.{cpuPlaces};
 ghost use Rattle.rules.specs.Machine.{Machine, taskPlaces, fifo, rr, lowestPriority, highestPriority};
-ghost use Rattle.rules.specs.Events.{add, set-priority, set-affinity};
+ghost use Rattle.rules.specs.Events.{set-priority, set-affinity};
 ghost use Rattle.rules.specs.Refusals.{firstFailing, checks};
 ghost use Rattle.effects.specs.After.{event, taskIn};
 use super::answer;
@@ -30,31 +29,6 @@ pub fn in_state(state: &[u8], who: u32, wanted: u8) -> u8
     }
     if state[at] != wanted {
         return answer::WRONG_STATE;
-    }
-    answer::ACCEPTED
-}
-
-// Kind 1.
-pub fn addable(n: usize, state: &[u8], who: u32, a: u32, b: u32, k: u64) -> u8
-    requires { ⌜ n ≤ cpuPlaces ⌝ }
-    requires { ⌜ length (now state) ≡ taskPlaces ⌝ }
-    ensures { λ r. ⌜ ((m : Machine) (kind : ℕ) → n ≡ m .n → now (state .entry) ≡ m .state → r ≡ firstFailing (checks m (event kind who a b k) add)) ⌝ }
-{
-    let at = who as usize;
-    if PLACES <= at {
-        return answer::BAD_NUMBER;
-    }
-    if state[at] != task::FREE {
-        return answer::WRONG_STATE;
-    }
-    if !is_policy(a) {
-        return answer::BAD_POLICY;
-    }
-    if !is_priority(b) {
-        return answer::BAD_VALUE;
-    }
-    if !mask_fits(n, k) {
-        return answer::BAD_MASK;
     }
     answer::ACCEPTED
 }
@@ -96,13 +70,13 @@ pub fn changeable_mask(n: usize, state: &[u8], who: u32, k: u64) -> u8
     answer::ACCEPTED
 }
 
-fn is_policy(a: u32) -> bool
+pub fn is_policy(a: u32) -> bool
     ensures { λ r. ⌜ r ≡ (eqb a fifo || eqb a rr) ⌝ }
 {
     (a == task::FIFO as u32) | (a == task::RR as u32)
 }
 
-fn is_priority(b: u32) -> bool
+pub fn is_priority(b: u32) -> bool
     ensures { λ r. ⌜ r ≡ (leb lowestPriority b && leb b highestPriority) ⌝ }
 {
     (LOWEST_PRIORITY <= b) & (b <= HIGHEST_PRIORITY)
