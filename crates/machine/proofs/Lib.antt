@@ -1,0 +1,2 @@
+-- The laws of an event on lent tables.
+pub mod Handling
