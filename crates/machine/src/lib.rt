@@ -41,7 +41,20 @@ pub fn event(
     ensures { λ o. ⌜ result (o .answer) (o .moves) (o .«record») (lent (now (state .exit)) (now (policy .exit)) (now (prio .exit)) (now (cpu .exit)) (now (slice .exit)) (now (mask .exit)) (now (rows .exit)) (now (counts .exit)) (now (flags .exit)) (now (log .exit))) ≡ handled n «record» (lent (now (state .entry)) (now (policy .entry)) (now (prio .entry)) (now (cpu .entry)) (now (slice .entry)) (now (mask .entry)) (now (rows .entry)) (now (counts .entry)) (now (flags .entry)) (now (log .entry))) (numbers kind who a b k) ⌝ }
     ensures { λ o. ⌜ (o .answer ≡ 0 → LentDemand3 n (o .moves) (effect (numbers kind who a b k) (machineOf n (lent (now (state .entry)) (now (policy .entry)) (now (prio .entry)) (now (cpu .entry)) (now (slice .entry)) (now (mask .entry)) (now (rows .entry)) (now (counts .entry)) (now (flags .entry)) (now (log .entry))))) (lent (now (state .exit)) (now (policy .exit)) (now (prio .exit)) (now (cpu .exit)) (now (slice .exit)) (now (mask .exit)) (now (rows .exit)) (now (counts .exit)) (now (flags .exit)) (now (log .exit)))) ⌝ }
 {
-    let number = checker::check::check(n, state, policy, prio, cpu, slice, mask, rows, counts, flags, log, record);
+    let number = checker::check::check(
+        n,
+        state,
+        policy,
+        prio,
+        cpu,
+        slice,
+        mask,
+        rows,
+        counts,
+        flags,
+        log,
+        record,
+    );
     if number != 0 {
         return Outcome {
             answer: number,
@@ -49,7 +62,25 @@ pub fn event(
             record,
         };
     }
-    handle(n, state, policy, prio, cpu, slice, mask, rows, counts, flags, log, kind, who, a, b, k, record)
+    handle(
+        n,
+        state,
+        policy,
+        prio,
+        cpu,
+        slice,
+        mask,
+        rows,
+        counts,
+        flags,
+        log,
+        kind,
+        who,
+        a,
+        b,
+        k,
+        record,
+    )
 }
 
 // One event on well-formed tables, which stay well-formed: no table is looked through.
@@ -76,12 +107,29 @@ pub fn handle(
     ensures { λ o. ⌜ result (o .answer) (o .moves) (o .«record») (lent (now (state .exit)) (now (policy .exit)) (now (prio .exit)) (now (cpu .exit)) (now (slice .exit)) (now (mask .exit)) (now (rows .exit)) (now (counts .exit)) (now (flags .exit)) (now (log .exit))) ≡ handled n «record» (lent (now (state .entry)) (now (policy .entry)) (now (prio .entry)) (now (cpu .entry)) (now (slice .entry)) (now (mask .entry)) (now (rows .entry)) (now (counts .entry)) (now (flags .entry)) (now (log .entry))) (numbers kind who a b k) ⌝ }
     ensures { λ o. ⌜ checked n (o .«record») (lent (now (state .exit)) (now (policy .exit)) (now (prio .exit)) (now (cpu .exit)) (now (slice .exit)) (now (mask .exit)) (now (rows .exit)) (now (counts .exit)) (now (flags .exit)) (now (log .exit))) ≡ 0 ⌝ }
 {
-    let applied = effects::apply(n, state, policy, prio, cpu, slice, mask, rows, counts, flags, kind, who, a, b, k, record);
-    let number = applied.answer;
+    let applied = effects::apply(
+        n,
+        state,
+        policy,
+        prio,
+        cpu,
+        slice,
+        mask,
+        rows,
+        counts,
+        flags,
+        kind,
+        who,
+        a,
+        b,
+        k,
+        record,
+    );
+    let refusal = applied.answer;
     let changed = applied.record;
-    if number != 0 {
+    if refusal != 0 {
         return Outcome {
-            answer: number,
+            answer: refusal,
             moves: 0,
             record: changed,
         };
