@@ -40,6 +40,7 @@ pub fn event(
 ) -> Outcome
     ensures { λ o. ⌜ result (o .answer) (o .moves) (o .«record») (lent (now (state .exit)) (now (policy .exit)) (now (prio .exit)) (now (cpu .exit)) (now (slice .exit)) (now (mask .exit)) (now (rows .exit)) (now (counts .exit)) (now (flags .exit)) (now (log .exit))) ≡ handled n «record» (lent (now (state .entry)) (now (policy .entry)) (now (prio .entry)) (now (cpu .entry)) (now (slice .entry)) (now (mask .entry)) (now (rows .entry)) (now (counts .entry)) (now (flags .entry)) (now (log .entry))) (numbers kind who a b k) ⌝ }
     ensures { λ o. ⌜ (o .answer ≡ 0 → LentDemand3 n (o .moves) (effect (numbers kind who a b k) (machineOf n (lent (now (state .entry)) (now (policy .entry)) (now (prio .entry)) (now (cpu .entry)) (now (slice .entry)) (now (mask .entry)) (now (rows .entry)) (now (counts .entry)) (now (flags .entry)) (now (log .entry))))) (lent (now (state .exit)) (now (policy .exit)) (now (prio .exit)) (now (cpu .exit)) (now (slice .exit)) (now (mask .exit)) (now (rows .exit)) (now (counts .exit)) (now (flags .exit)) (now (log .exit)))) ⌝ }
+    ensures { λ o. ⌜ (o .answer ≡ 0 → checked n (o .«record») (lent (now (state .exit)) (now (policy .exit)) (now (prio .exit)) (now (cpu .exit)) (now (slice .exit)) (now (mask .exit)) (now (rows .exit)) (now (counts .exit)) (now (flags .exit)) (now (log .exit))) ≡ 0) ⌝ }
 {
     let number = checker::check::check(
         n,
@@ -83,7 +84,7 @@ pub fn event(
     )
 }
 
-// One event on well-formed tables, which stay well-formed: no table is looked through.
+// One event on well-formed tables, which stay well-formed. Nothing is checked again but the event.
 pub fn handle(
     n: usize,
     state: &mut [u8],
