@@ -1,5 +1,6 @@
 // Document 01's marked examples K1 to K12, run through the library: each event with its answer and its
-// moves, and after each accepted one that may move tasks the rows, levels and tasks.
+// moves, and after each accepted one but an add the rows, levels and tasks. Then a few more cases.
+mod cases;
 mod print;
 mod tables;
 
@@ -36,6 +37,9 @@ fn main() {
         .wake(1)
         .priority(0, 30);
     k12();
+    cases::chain();
+    cases::refusals();
+    cases::damaged();
 }
 
 // Two tasks that may use both CPUs; the higher one wakes last.

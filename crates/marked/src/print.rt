@@ -17,6 +17,11 @@ pub fn made(n: u8, answer: u8) {
     text(b"\n");
 }
 
+pub fn checked(answer: u8) {
+    number(b"check: answer ", answer as u64);
+    text(b"\n");
+}
+
 // The five numbers of an event: kind, who, a, b, mask.
 pub fn asked(kind: u32, who: u32, a: u32, b: u32, mask: u64) {
     name(kind);

@@ -115,6 +115,36 @@ impl Tables {
         }
     }
 
+    // The check of the tables, with its answer printed.
+    pub fn check(self) -> Tables {
+        let state = self.state;
+        let policy = self.policy;
+        let prio = self.prio;
+        let cpu = self.cpu;
+        let slice = self.slice;
+        let mask = self.mask;
+        let rows = self.rows;
+        let counts = self.counts;
+        let flags = self.flags;
+        let log = self.log;
+        let record = self.record;
+        test(
+            self.n,
+            &state,
+            &policy,
+            &prio,
+            &cpu,
+            &slice,
+            &mask,
+            &rows,
+            &counts,
+            &flags,
+            &log,
+            record,
+        );
+        self
+    }
+
     // A FIFO task, added asleep.
     pub fn add(self, task: u32, priority: u32, mask: u64) -> Tables {
         self.event(1, task, 1, priority, mask)
@@ -238,4 +268,41 @@ fn handle(
         print::tasks(state, cpu, slice);
     }
     after
+}
+
+// The check of the machine's part of the tables.
+fn test(
+    n: u8,
+    state: &[u8],
+    policy: &[u8],
+    prio: &[u8],
+    cpu: &[u8],
+    slice: &[u16],
+    mask: &[u64],
+    rows: &[u16],
+    counts: &[u16],
+    flags: &[u8],
+    log: &[u16],
+    record: Record,
+) {
+    let cpus = n as usize;
+    let places = 512 * cpus;
+    if places > rows.len() || cpus > counts.len() || cpus > flags.len() {
+        return;
+    }
+    let answer = checker::check::check(
+        cpus,
+        state,
+        policy,
+        prio,
+        cpu,
+        slice,
+        mask,
+        &rows[..places],
+        &counts[..cpus],
+        &flags[..cpus],
+        log,
+        record,
+    );
+    print::checked(answer);
 }

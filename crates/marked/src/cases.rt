@@ -1,0 +1,57 @@
+// Cases beyond the marked examples: the longest chain, the other refusals, tables that are damaged.
+use super::print;
+use super::tables::Tables;
+
+// 64 CPUs, task c on CPU c allowed there and on the next, priorities falling: a higher task that may use
+// CPU 0 alone pushes each of the 63 to its next CPU.
+pub fn chain() {
+    print::text(b"63 moves\n");
+    let mut t = Tables::fresh(64);
+    let mut c = 0u32;
+    while c < 63 {
+        t = t.change(1, c, 1, 90 - c, 3 << c, false);
+        t = t.change(3, c, 0, 0, 0, false);
+        c += 1;
+    }
+    t.add(63, 99, 1).wake(63);
+}
+
+// Kinds 0 and 10, policies 0 and 3, and with N 63 the masks of CPUs 62 and 63.
+pub fn refusals() {
+    print::text(b"Refusals\n");
+    let t = Tables::fresh(1).event(0, 0, 0, 0, 0).event(10, 0, 0, 0, 0);
+    t.event(1, 0, 0, 50, 1).event(1, 0, 3, 50, 1);
+    Tables::fresh(63)
+        .add(0, 50, 0x4000_0000_0000_0000)
+        .add(1, 50, 0x8000_0000_0000_0000);
+}
+
+// One number of well-formed tables changed, against each of W1 to W6 in turn; the check answers 2 and a yield is
+// refused.
+pub fn damaged() {
+    print::text(b"Damaged tables\n");
+    let whole = Tables::fresh(2)
+        .add(0, 50, 1)
+        .add(1, 30, 1)
+        .wake(0)
+        .wake(1)
+        .check();
+    let mut t = whole;
+    t.state[5] = 3;
+    t.check();
+    t = whole;
+    t.slice[0] = 0;
+    t.check();
+    t = whole;
+    t.flags[0] = 2;
+    t.check();
+    t = whole;
+    t.cpu[0] = 1;
+    t.check();
+    t = whole;
+    t.prio[1] = 60;
+    t.check();
+    t = whole;
+    t.flags[1] = 1;
+    t.check().event(8, 0, 0, 0, 0);
+}
