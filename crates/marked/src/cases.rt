@@ -26,8 +26,8 @@ pub fn refusals() {
         .add(1, 50, 0x8000_0000_0000_0000);
 }
 
-// One number of well-formed tables changed, against each of W1 to W6 in turn; the check answers 2 and a yield is
-// refused.
+// One number of well-formed tables changed, against each of W1 to W6 in turn. The check answers 2 each time; the
+// last one is also shown to an event.
 pub fn damaged() {
     print::text(b"Damaged tables\n");
     let whole = Tables::fresh(2)
