@@ -13,9 +13,9 @@ use Rattle.rules.specs.Machine.{fresh, levels, taskPlaces}
 use Rattle.rules.specs.WellFormed.{Shape}
 use Rattle.rules.specs.Refusals.{firstFailing, badSize, illFormed}
 use Rattle.rules.specs.Tables.{Tables, machineOf, padded, flatOf, rowCounts, nothing, logPlaces, lengthsFit, tablesFit}
-use Rattle.rules.specs.Entry.{kept, made, madeBy, written, checked}
+use Rattle.rules.specs.Entry.{kept, made, written, checked}
 use Rattle.rules.proofs.Record.{levels-fresh}
-use Rattle.rules.proofs.Entry.{lengths-shape}
+use Rattle.rules.proofs.Entry.{lengths-shape, made-fresh}
 use Rattle.checker.specs.Lent.{sizesFit}
 
 -- the test of the lengths alone is the rules'
@@ -34,14 +34,6 @@ module _ (n : ℕ) (r : Record) (s : Tables) where
   unfolding checked firstFailing
   checked-form h true e = ap₂ (λ (a b : Bool). cond (not a) badSize (cond (not b) illFormed 0)) h e
   checked-form h false e = ap₂ (λ (a b : Bool). cond (not a) badSize (cond (not b) illFormed 0)) h e
-
-  pub made-refused : lengthsFit n s ≡ false → made n r s ≡ kept badSize r s
-  unfolding made firstFailing
-  made-refused h = ap (λ (b : Bool). madeBy (cond (not b) badSize 0) n r s) h
-
-  made-written : lengthsFit n s ≡ true → made n r s ≡ written 0 (fresh n) (replicate logPlaces nothing)
-  unfolding made firstFailing
-  made-written h = ap (λ (b : Bool). madeBy (cond (not b) badSize 0) n r s) h
 
 -- ---- empty rows, written
 
@@ -73,7 +65,7 @@ pub record Blank (s t : Tables) : Type 0 where
   pub log : t .log ≡ replicate (length (s .log)) nothing
 
 pub made-blank : (n : ℕ) (r q : Record) (s t : Tables) → lengthsFit n s ≡ true → Blank s t → q ≡ recordOf (freshLevels n) → kept 0 q t ≡ made n r s
-made-blank n r q s t h b e = filled ∙ sym (made-written n r s h)
+made-blank n r q s t h b e = filled ∙ sym (made-fresh n r s h)
   where
     sized : Shape (machineOf n s) × (length (s .rows) ≡ taskPlaces * n) × (length (s .counts) ≡ n) × (length (s .log) ≡ logPlaces)
     sized = lengths-shape n s h

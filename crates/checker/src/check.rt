@@ -11,15 +11,11 @@ ghost use Rattle.checker.specs.Lent.{lent};
 use super::sizes::lengths_fit;
 use cpupri::consistent::is_consistent;
 use cpupri::record::Record;
+use rules::answer::ACCEPTED;
+use rules::answer::BAD_SIZE;
+use rules::answer::ILL_FORMED;
 use wellformed::columns::columns_fit;
 use wellformed::rows::rows_fit;
-
-// Answers.
-pub const ACCEPTED: u8 = 0;
-
-pub const BAD_SIZE: u8 = 1;
-
-pub const ILL_FORMED: u8 = 2;
 
 // 0 for a well-formed machine, 1 if N or a length does not fit, 2 if anything that is stored is not as
 // W1 to W6 say. Nothing is written.

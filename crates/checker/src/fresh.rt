@@ -4,15 +4,15 @@ ghost use lib.ListN.{length, replicate};
 ghost use Rattle.rules.specs.Entry.{kept, made};
 ghost use Rattle.rules.specs.Tables.{nothing};
 ghost use Rattle.checker.specs.Lent.{lent};
-use super::check::ACCEPTED;
-use super::check::BAD_SIZE;
 use super::fill::fill_u8;
 use super::fill::fill_u16;
 use super::fill::fill_u64;
 use super::sizes::lengths_fit;
 use cpupri::record::Record;
+use rules::answer::ACCEPTED;
+use rules::answer::BAD_SIZE;
+use rules::task::FREE;
 use runqueue::row::NOTHING;
-use wellformed::columns::FREE;
 
 // The answer, and the record that comes back.
 pub struct Made {

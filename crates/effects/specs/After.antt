@@ -9,10 +9,6 @@ use Rattle.rules.specs.Machine.{Machine, taskPlaces}
 use Rattle.rules.specs.Events.{Event, Kind, effectOf, effect}
 use Rattle.rules.specs.Refusals.{Check, firstFailing, checks, refusal, badNumber, wrongState}
 
--- an event, by its five numbers
-abbrev pub event : ℕ → ℕ → ℕ → ℕ → ℕ → Event
-event kind who a b k = record { kind = kind; who = who; a = a; b = b; mask = k }
-
 -- the answer 0 accepts
 abbrev pub ifAccepted : ℕ → Machine → Machine → Machine
 ifAccepted zero done m = done

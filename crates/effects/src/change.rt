@@ -1,13 +1,13 @@
 // Kinds 5 and 6: a task gets another priority or another affinity mask.
 ghost use Prim.Native.Nat.{ℕ};
 ghost use Rattle.rules.specs.Machine.{Machine};
-ghost use Rattle.effects.specs.After.{event};
+ghost use Rattle.rules.specs.Events.{event};
 ghost use Rattle.effects.specs.Lent.{LentPriority, Reprioritised, LentAffinity, Reaffined};
-use super::answer;
 use super::answer::Applied;
 use super::check;
-use super::task;
 use cpupri::record::Record;
+use rules::answer;
+use rules::task;
 
 // Asleep: the number only. Runnable and unchanged: nothing. Runnable and changed: the task leaves its
 // row and enters it again.

@@ -8,15 +8,12 @@ ghost use Rattle.cpupri.specs.Level.{cpuPlaces};
 ghost use Rattle.rules.specs.Machine.{Machine, taskPlaces, fifo, rr, lowestPriority, highestPriority};
 ghost use Rattle.rules.specs.Events.{set-priority, set-affinity};
 ghost use Rattle.rules.specs.Refusals.{firstFailing, checks};
-ghost use Rattle.effects.specs.After.{event, taskIn};
-use super::answer;
-use super::task;
+ghost use Rattle.rules.specs.Events.{event};
+ghost use Rattle.effects.specs.After.{taskIn};
 use cpupri::find::mask_fits;
+use rules::answer;
+use rules::task;
 use runqueue::row::PLACES;
-
-const LOWEST_PRIORITY: u32 = 1;
-
-const HIGHEST_PRIORITY: u32 = 99;
 
 // Kinds 2 to 4: the place is in the wanted state.
 pub fn in_state(state: &[u8], who: u32, wanted: u8) -> u8
@@ -79,5 +76,5 @@ pub fn is_policy(a: u32) -> bool
 pub fn is_priority(b: u32) -> bool
     ensures { λ r. ⌜ r ≡ (leb lowestPriority b && leb b highestPriority) ⌝ }
 {
-    (LOWEST_PRIORITY <= b) & (b <= HIGHEST_PRIORITY)
+    (task::LOWEST_PRIORITY as u32 <= b) & (b <= task::HIGHEST_PRIORITY as u32)
 }

@@ -2,10 +2,10 @@
 // a row goes behind its equals only.
 ghost use Prim.Native.Nat.{ℕ};
 ghost use Rattle.rules.specs.Machine.{Machine, requeue as requeued};
-ghost use Rattle.effects.specs.After.{event};
+ghost use Rattle.rules.specs.Events.{event};
 ghost use Rattle.effects.specs.Lent.{LentTick, Ticked, LentYield, Yielded, Running, Queues};
-use super::answer;
-use super::task;
+use rules::answer;
+use rules::task;
 use runqueue::row::PLACES;
 use runqueue::table;
 

@@ -1,10 +1,11 @@
 // The nine kinds of event, each with its checks and its own effect on lent tables, and the dispatcher
 // over them. Each kind is lent only the tables that it touches, as `&` where it only reads.
 ghost use Rattle.rules.specs.Machine.{Machine};
-ghost use Rattle.effects.specs.After.{event};
+ghost use Rattle.rules.specs.Events.{event};
 ghost use Rattle.effects.specs.Lent.{LentAll, Answered};
 use answer::Applied;
 use cpupri::record::Record;
+use rules::answer::UNKNOWN_KIND;
 
 pub mod answer;
 pub mod change;
@@ -84,7 +85,7 @@ pub fn apply(
         }
         9 => ordinary::set_ordinary(n, flags, counts, who, b, record),
         _ => Applied {
-            answer: answer::UNKNOWN_KIND,
+            answer: UNKNOWN_KIND,
             record: record,
         },
     }

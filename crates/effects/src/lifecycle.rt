@@ -6,13 +6,14 @@ ghost use Rattle.cpupri.specs.Level.{cpuPlaces};
 ghost use Rattle.rules.specs.Machine.{Machine, taskPlaces};
 ghost use Rattle.rules.specs.Events.{add as addKind, remove as removeKind};
 ghost use Rattle.rules.specs.Refusals.{firstFailing, checks};
-ghost use Rattle.effects.specs.After.{event};
+ghost use Rattle.rules.specs.Events.{event};
 ghost use Rattle.effects.specs.Lent.{LentAdd, LentRemove, Written};
-use super::answer;
 use super::check;
-use super::task;
 use super::task::Task;
+use super::task::write;
 use cpupri::find::mask_fits;
+use rules::answer;
+use rules::task;
 use runqueue::row::PLACES;
 
 // A new task, asleep on the lowest-numbered allowed CPU, with a full slice.
@@ -45,7 +46,7 @@ pub fn add(
         slice: task::FULL_SLICE,
         mask: k,
     };
-    task::write(state, policy, prio, cpu, slice, mask, who as usize, new);
+    write(state, policy, prio, cpu, slice, mask, who as usize, new);
     answer::ACCEPTED
 }
 
@@ -74,7 +75,7 @@ pub fn remove(
         slice: 0,
         mask: 0,
     };
-    task::write(state, policy, prio, cpu, slice, mask, who as usize, none);
+    write(state, policy, prio, cpu, slice, mask, who as usize, none);
     answer::ACCEPTED
 }
 

@@ -1,12 +1,12 @@
 // Kind 9: whether a CPU has ordinary work.
 ghost use Prim.Native.Nat.{ℕ};
 ghost use Rattle.rules.specs.Machine.{Machine};
-ghost use Rattle.effects.specs.After.{event};
+ghost use Rattle.rules.specs.Events.{event};
 ghost use Rattle.effects.specs.Lent.{LentOrdinary, Flagged};
-use super::answer;
 use super::answer::Applied;
 use cpupri::level::Level;
 use cpupri::record::Record;
+use rules::answer;
 
 // there is ordinary work; 0: there is none
 const WORK: u32 = 1;

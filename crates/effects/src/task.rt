@@ -5,21 +5,6 @@ ghost use lib.ListN.{set};
 ghost use Rattle.rules.specs.Machine.{taskPlaces};
 ghost use Rattle.effects.specs.Lent.{Sized};
 
-// states
-pub const FREE: u8 = 0;
-
-pub const ASLEEP: u8 = 1;
-
-pub const RUNNABLE: u8 = 2;
-
-// policies: SCHED_FIFO, SCHED_RR
-pub const FIFO: u8 = 1;
-
-pub const RR: u8 = 2;
-
-// a full time slice, in ticks
-pub const FULL_SLICE: u16 = 100;
-
 pub struct Task {
     pub state: u8,
     pub policy: u8,

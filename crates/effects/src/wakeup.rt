@@ -5,13 +5,13 @@ ghost use Prim.Native.Nat.{ℕ, _<_};
 ghost use Rattle.bits.specs.Bit.{bit, lowest};
 ghost use Rattle.cpupri.specs.Level.{cpuPlaces};
 ghost use Rattle.rules.specs.Machine.{Machine};
-ghost use Rattle.effects.specs.After.{event};
+ghost use Rattle.rules.specs.Events.{event};
 ghost use Rattle.effects.specs.Lent.{LentWake, Woken, LentSleep, Slept};
-use super::answer;
 use super::answer::Applied;
 use super::check;
-use super::task;
 use cpupri::record::Record;
+use rules::answer;
+use rules::task;
 
 // A sleeper becomes runnable, and enters the row of its CPU or, if that is not allowed, of the
 // lowest-numbered allowed one, which becomes its CPU. Its slice is kept.

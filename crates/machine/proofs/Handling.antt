@@ -14,13 +14,13 @@ use Rattle.rules.specs.Refusals.{refusal}
 use Rattle.rules.specs.Migration.{Move, Settled, settled, migrate}
 use Rattle.rules.specs.Outcome.{Outcome, outcome, logged}
 use Rattle.rules.specs.Tables.{Tables, machineOf, tablesOf, flatOf, rowsOf, rowCounts, logPlaces}
-use Rattle.rules.specs.Entry.{Result, kept, written, checked, eventAnswer, orElse, handled}
+use Rattle.rules.specs.Entry.{Good, Result, kept, written, checked, eventAnswer, orElse, handled}
 use Rattle.rules.specs.LentDemand3.{LentDemand3}
 use Rattle.rules.proofs.Checks.{outcome-accepted}
 use Rattle.rules.proofs.Effects.{keep-effect}
 use Rattle.rules.proofs.Runs.{settle-run, run-keeps, run-few}
 use Rattle.rules.proofs.Tables.{write-read, stored-test}
-use Rattle.rules.proofs.Entry.{Good, checked-good, good-checked, answer-zero, handled-answer, handled-refused, handled-accepted, handled-good, start-n}
+use Rattle.rules.proofs.Entry.{checked-good, good-checked, answer-zero, handled-answer, handled-refused, handled-accepted, handled-good, start-n}
 use Rattle.rules.proofs.LentDemand3.{handled-lent}
 use Rattle.checker.specs.Lent.{lent}
 use Rattle.effects.specs.Lent.{LentAll, Answered}

@@ -6,7 +6,7 @@ ghost use Rattle.rules.specs.Events.{effect};
 ghost use Rattle.rules.specs.LentDemand3.{LentDemand3};
 ghost use Rattle.rules.specs.Tables.{machineOf};
 ghost use Rattle.checker.specs.Lent.{lent};
-ghost use Rattle.effects.specs.After.{event as numbers};
+ghost use Rattle.rules.specs.Events.{event as numbers};
 ghost use Rattle.machine.specs.Result.{result};
 use cpupri::record::Record;
 

@@ -21,7 +21,7 @@ use Rattle.rules.specs.Refusals.{Passes, refusal, firstFailing, badSize}
 use Rattle.rules.specs.Outcome.{Outcome, outcome, logged}
 use Rattle.rules.specs.Demand3.{Demand3}
 use Rattle.rules.specs.Tables.{Tables, machineOf, tablesOf, lengthsFit, tablesFit, recordFits, flatOf, rowCounts, storedRows, Stored, nothing, logPlaces}
-use Rattle.rules.specs.Entry.{Result, kept, written, sizeCheck, formCheck, checked, orElse, eventAnswer, made, madeBy, handled, handledBy}
+use Rattle.rules.specs.Entry.{Good, Result, kept, written, sizeCheck, formCheck, checked, orElse, eventAnswer, made, madeBy, handled, handledBy}
 use Rattle.rules.proofs.Bools.{both}
 use Rattle.rules.proofs.Apart.{in-row, runnable-place}
 use Rattle.rules.proofs.Checks.{Accepted, accepted-checks, effect-is, outcome-accepted, outcome-moves, passes, passed}
@@ -35,15 +35,6 @@ use Rattle.rules.proofs.Record.{record-is, is-record, levels-fresh}
 use Rattle.rules.proofs.Log.{length-logged}
 
 -- ---- what the check says
-
--- W1 to W6 of what is lent, and its lengths
-pub record Good (n : ℕ) (r : Record) (s : Tables) : Type 0 where
-  pub machine : WellFormed (machineOf n s)
-  pub rows : length (s .rows) ≡ taskPlaces * n
-  pub counts : length (s .counts) ≡ n
-  pub log : length (s .log) ≡ logPlaces
-  pub stored : Stored (s .counts) (s .rows)
-  pub levels : r ≡ recordOf (levels (machineOf n s))
 
 -- the lengths of the tables are the machine's
 pub lengths-shape : (n : ℕ) (s : Tables) → lengthsFit n s ≡ true

@@ -21,14 +21,14 @@ use Rattle.rules.specs.Migration.{Move, waiting}
 use Rattle.rules.specs.Outcome.{outcome, logged, entryWidth}
 use Rattle.rules.specs.Demand3.{Demand3, Outdone, movers, receivers}
 use Rattle.rules.specs.Tables.{Tables, machineOf, rowsOf}
-use Rattle.rules.specs.Entry.{Result, eventAnswer, handled}
+use Rattle.rules.specs.Entry.{Good, Result, eventAnswer, handled}
 use Rattle.rules.specs.LentDemand3.{LentDemand3, Entries, moverAt, receiverAt, taskAt, Busy}
 use Rattle.rules.proofs.Lists.{in-getD, in-tails, occ-cons, digit-same, falling-at}
 use Rattle.rules.proofs.Order.{place-is, place-lt}
 use Rattle.rules.proofs.Apart.{in-row, row-in, once, runnable-fit}
 use Rattle.rules.proofs.Tables.{row-at, write-read, stored-test}
 use Rattle.rules.proofs.Log.{logged-entry, noMove}
-use Rattle.rules.proofs.Entry.{Good, handled-good, handled-demand3, handled-moves, handled-log, start-n}
+use Rattle.rules.proofs.Entry.{handled-good, handled-demand3, handled-moves, handled-log, start-n}
 
 -- ---- lists by their places
 

@@ -7,14 +7,11 @@ use lib.ListN.{replicate}
 use Rattle.cpupri.specs.Found.{sizeFits}
 use Rattle.rules.specs.Lists.{below}
 use Rattle.rules.specs.Machine.{Machine, taskOf, level, fresh, fifo, rr, fullSlice}
-use Rattle.rules.specs.Events.{Event}
+use Rattle.rules.specs.Events.{Event, event}
 use Rattle.rules.specs.Refusals.{badSize}
 use Rattle.rules.specs.Outcome.{Outcome, outcome, refused, logNumbers}
 
 -- ---- events
-
-abbrev pub event : ℕ → ℕ → ℕ → ℕ → ℕ → Event
-event k w a b s = record { kind = k; who = w; a = a; b = b; mask = s }
 
 abbrev pub add : ℕ → ℕ → ℕ → Event
 add t p s = event 1 t fifo p s

@@ -1,17 +1,19 @@
 -- The three public entries over what the caller lends: make a fresh machine, check, and event. Each gives its answer and all that it hands
 -- back, on a refusal too.
 -- Assumes nothing.
+use mathlib.Core.Path.{_≡_}
 use mathlib.Core.Bool.{not}
 use mathlib.Core.List.{List, [], _∷_}
-use Prim.Native.Nat.{ℕ, zero, suc}
-use lib.ListN.{replicate}
+use Prim.Native.Nat.{ℕ, zero, suc, _*_}
+use lib.ListN.{length, replicate}
 use Rattle.cpupri.specs.Record.{recordOf}
 use Rattle.cpupri.specs.declared.record.Record.{Record}
-use Rattle.rules.specs.Machine.{Machine, fresh, levels}
+use Rattle.rules.specs.Machine.{Machine, fresh, levels, taskPlaces}
+use Rattle.rules.specs.WellFormed.{WellFormed}
 use Rattle.rules.specs.Events.{Event}
 use Rattle.rules.specs.Refusals.{Check, firstFailing, refusal, badSize, illFormed}
 use Rattle.rules.specs.Outcome.{Outcome, outcome, logged}
-use Rattle.rules.specs.Tables.{Tables, machineOf, tablesOf, lengthsFit, tablesFit, nothing, logPlaces}
+use Rattle.rules.specs.Tables.{Tables, machineOf, tablesOf, lengthsFit, tablesFit, Stored, nothing, logPlaces}
 
 -- what comes back
 pub record Result : Type 0 where
@@ -36,7 +38,16 @@ sizeCheck n s = record { number = badSize; fails = not (lengthsFit n s) }
 abbrev pub formCheck : ℕ → Record → Tables → Check
 formCheck n r s = record { number = illFormed; fails = not (tablesFit n r s) }
 
--- the public checker: 0, 1 or 2
+-- W1 to W6 of what is lent, and its lengths
+pub record Good (n : ℕ) (r : Record) (s : Tables) : Type 0 where
+  pub machine : WellFormed (machineOf n s)
+  pub rows : length (s .rows) ≡ taskPlaces * n
+  pub counts : length (s .counts) ≡ n
+  pub log : length (s .log) ≡ logPlaces
+  pub stored : Stored (s .counts) (s .rows)
+  pub levels : r ≡ recordOf (levels (machineOf n s))
+
+-- the public checker: 0, exactly if the tables are good, or 1 or 2
 unfoldable pub checked : ℕ → Record → Tables → ℕ
 checked n r s = firstFailing (sizeCheck n s ∷ formCheck n r s ∷ [])
 

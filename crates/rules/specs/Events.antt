@@ -17,6 +17,9 @@ pub record Event : Type 0 where
   pub b : ℕ
   pub mask : ℕ
 
+abbrev pub event : ℕ → ℕ → ℕ → ℕ → ℕ → Event
+event kind who a b k = record { kind = kind; who = who; a = a; b = b; mask = k }
+
 pub data Kind : Type 0 where
   add remove wake sleep set-priority set-affinity tick yield set-ordinary : Kind
 

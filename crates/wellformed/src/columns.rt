@@ -8,26 +8,8 @@ ghost use Rattle.wellformed.specs.Placed.{task, rangesFit, soundWhen, Co
 use super::marks;
 use super::marks::WORDS;
 use cpupri::find::mask_fits;
+use rules::task;
 use runqueue::row::PLACES;
-
-// States.
-pub const FREE: u8 = 0;
-
-pub const ASLEEP: u8 = 1;
-
-pub const RUNNABLE: u8 = 2;
-
-// Policies.
-pub const FIFO: u8 = 1;
-
-pub const RR: u8 = 2;
-
-// Priorities, and a full slice in ticks.
-pub const LOWEST: u8 = 1;
-
-pub const HIGHEST: u8 = 99;
-
-pub const FULL_SLICE: u16 = 100;
 
 // Each task in turn: W1 and W2, and a runnable one is in the set of those that stand in rows.
 pub fn columns_fit(
@@ -79,13 +61,14 @@ fn task_fits(
     requires { ⌜ n ≤ cpuPlaces ⌝ }
     ensures { λ b. ⌜ b ≡ soundWhen placed n (task state policy prio cpu slice mask) ⌝ }
 {
-    if state == FREE {
+    if state == task::FREE {
         return (policy == 0) & (prio == 0) & (cpu == 0) & (slice == 0) & (mask == 0);
     }
     if !in_range(n, policy, prio, cpu, slice, mask) {
         return false;
     }
-    (state == ASLEEP) | ((state == RUNNABLE) & placed & bits::test_bit(mask, cpu as usize))
+    (state == task::ASLEEP)
+        | ((state == task::RUNNABLE) & placed & bits::test_bit(mask, cpu as usize))
 }
 
 // W2 of one task.
@@ -93,12 +76,12 @@ fn in_range(n: usize, policy: u8, prio: u8, cpu: u8, slice: u16, mask: u64) -> b
     requires { ⌜ n ≤ cpuPlaces ⌝ }
     ensures { λ b. ⌜ b ≡ rangesFit n policy prio cpu slice mask ⌝ }
 {
-    (FIFO <= policy)
-        & (policy <= RR)
-        & (LOWEST <= prio)
-        & (prio <= HIGHEST)
+    (task::FIFO <= policy)
+        & (policy <= task::RR)
+        & (task::LOWEST_PRIORITY <= prio)
+        & (prio <= task::HIGHEST_PRIORITY)
         & ((cpu as usize) < n)
         & (1 <= slice)
-        & (slice <= FULL_SLICE)
+        & (slice <= task::FULL_SLICE)
         & mask_fits(n, mask)
 }

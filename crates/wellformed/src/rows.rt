@@ -6,10 +6,10 @@ ghost use lib.ListN.{length, getD, take};
 ghost use Rattle.rules.specs.Machine.{taskPlaces, cpuPlaces, rowLevel};
 ghost use Rattle.wellformed.specs.Says.{Says};
 ghost use Rattle.wellformed.specs.Placed.{setWords, mark, Stands, AllStand, Once, Marks, Unused, Row, Rows, standings};
-use super::columns::RUNNABLE;
 use super::marks;
 use super::marks::WORDS;
 use cpupri::record::CPUS;
+use rules::task::RUNNABLE;
 use runqueue::row::NOTHING;
 use runqueue::row::PLACES;
 

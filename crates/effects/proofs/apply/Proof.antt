@@ -2,7 +2,7 @@
 use borrow.Author.Needs.{needs}
 use mathlib.Core.Path.{ap}
 use Rattle.rules.specs.Events.{kindOf}
-use Rattle.effects.specs.After.{event}
+use Rattle.rules.specs.Events.{event}
 use Rattle.effects.proofs.Dispatching.{lent-add, lent-remove, lent-wake, lent-sleep, lent-priority, lent-affinity, lent-tick, lent-yield, lent-ordinary}
 use Rattle.effects.proofs.Dispatching.{answered-add, answered-remove, answered-wake, answered-sleep, answered-priority, answered-affinity, answered-tick, answered-yield, answered-ordinary, answered-unknown, unnamed}
 use Rattle.effects.proofs.apply.Statement.{statement}

@@ -1,7 +1,7 @@
 -- `machine::event` meets its contract. Assumes nothing.
 use borrow.Author.Needs.{needs}
 use Rattle.checker.specs.Lent.{lent}
-use Rattle.effects.specs.After.{event}
+use Rattle.rules.specs.Events.{event}
 use Rattle.machine.proofs.Handling.{unchecked-result, result-demand}
 use Rattle.machine.proofs.event.Statement.{statement}
 use Rattle.machine.proofs.event.Tie as tie

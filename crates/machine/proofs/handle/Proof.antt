@@ -5,7 +5,7 @@ use native.Mathlib.Omega.{arith}
 use Rattle.rules.specs.Events.{effect}
 use Rattle.rules.specs.Tables.{machineOf}
 use Rattle.checker.specs.Lent.{lent}
-use Rattle.effects.specs.After.{event}
+use Rattle.rules.specs.Events.{event}
 use Rattle.machine.proofs.Handling.{lent-all, refused-result, start-settling, start-cpus, log-long, state-long, policy-long, taken-result, taken-few}
 use Rattle.machine.proofs.handle.Statement.{statement}
 use Rattle.machine.proofs.handle.Tie as tie

@@ -4,7 +4,8 @@ use mathlib.Core.Path.{sym, _∙_}
 use borrow.Author.Tests.{not-true, not-false}
 use Rattle.checker.specs.Lent.{lent, sizesFit}
 use Rattle.rules.proofs.Entry.{lengths-shape}
-use Rattle.checker.proofs.Answers.{made-refused, made-blank}
+use Rattle.rules.proofs.Entry.{made-refused}
+use Rattle.checker.proofs.Answers.{made-blank}
 use Rattle.checker.proofs.fresh.make_fresh.Statement.{statement}
 use Rattle.checker.proofs.fresh.make_fresh.Tie as tie
 

@@ -10,7 +10,7 @@ use Rattle.rules.specs.Machine.{Machine, Column, taskOf, store, dequeue, runnab
 use Rattle.bits.specs.Bit.{bit}
 use Rattle.rules.specs.Events.{set-affinity}
 use Rattle.rules.specs.Refusals.{firstFailing, checks}
-use Rattle.effects.specs.After.{event}
+use Rattle.rules.specs.Events.{event}
 use Rattle.effects.specs.Lent.{LentAffinity, Placed}
 use Rattle.effects.proofs.Answers.{after-done, after-refused, moved}
 use Rattle.effects.proofs.Accepted.{InState, Reaffinable, reaffinable, lowest-allowed}

@@ -10,7 +10,7 @@ use Rattle.cpupri.specs.declared.record.Record.{Record}
 use Rattle.rules.specs.Machine.{Machine, Column, taskOf, store, dequeue, runnable}
 use Rattle.rules.specs.Events.{set-priority}
 use Rattle.rules.specs.Refusals.{firstFailing, checks}
-use Rattle.effects.specs.After.{event}
+use Rattle.rules.specs.Events.{event}
 use Rattle.effects.specs.Lent.{LentPriority}
 use Rattle.effects.proofs.Answers.{after-done, after-refused, moved}
 use Rattle.effects.proofs.Accepted.{InState, Reprioritisable, reprioritisable}

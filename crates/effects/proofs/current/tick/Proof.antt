@@ -11,7 +11,7 @@ use Rattle.rules.specs.Machine.{Machine, row, runnable, taskPlaces, fullSlice}
 use Rattle.rules.specs.Events.{tick}
 use Rattle.rules.proofs.Lists.{in-here}
 use Rattle.rules.proofs.Apart.{in-row, runnable-place, runnable-fit}
-use Rattle.effects.specs.After.{event}
+use Rattle.rules.specs.Events.{event}
 use Rattle.effects.specs.Lent.{LentTick, Running}
 use Rattle.effects.proofs.Answers.{after-done, after-refused, queues-moved}
 use Rattle.effects.proofs.Accepted.{InState}

@@ -10,7 +10,7 @@ use Rattle.rules.specs.Lists.{In}
 use Rattle.rules.specs.Machine.{Machine, row, taskPlaces}
 use Rattle.rules.specs.Events.{yield}
 use Rattle.rules.proofs.Lists.{in-here}
-use Rattle.effects.specs.After.{event}
+use Rattle.rules.specs.Events.{event}
 use Rattle.effects.specs.Lent.{LentYield, Running}
 use Rattle.effects.proofs.Answers.{after-done, after-refused, queues-moved}
 use Rattle.effects.proofs.Requeueing.{queues-counted, none-runs, one-runs, place-in}

@@ -7,7 +7,7 @@ use Rattle.bits.specs.Bit.{lowest}
 use Rattle.bits.proofs.Search.{first-le}
 use Rattle.rules.specs.Machine.{write, asleep, fullSlice}
 use Rattle.rules.specs.Events.{add}
-use Rattle.effects.specs.After.{event}
+use Rattle.rules.specs.Events.{event}
 use Rattle.effects.proofs.Answers.{columns-kept, columns-written, columns-sized}
 use Rattle.effects.proofs.Accepted.{Addable, addable, lowest-allowed}
 use Rattle.effects.proofs.lifecycle.add.Statement.{statement}

@@ -3,7 +3,7 @@ use borrow.Author.Needs.{needs}
 use mathlib.Core.Path.{refl, sym, _∙_}
 use Rattle.rules.specs.Machine.{freeTask}
 use Rattle.rules.specs.Events.{remove}
-use Rattle.effects.specs.After.{event}
+use Rattle.rules.specs.Events.{event}
 use Rattle.effects.proofs.Answers.{columns-kept, columns-written, columns-sized, answer-of}
 use Rattle.effects.proofs.Accepted.{removable}
 use Rattle.effects.proofs.lifecycle.remove.Statement.{statement}

@@ -13,7 +13,7 @@ use Rattle.rules.specs.Events.{set-ordinary}
 use Rattle.rules.proofs.Record.{level-range}
 use Rattle.runqueue.proofs.Flat.{count-at}
 use Rattle.placement.proofs.Levels.{whole-levels}
-use Rattle.effects.specs.After.{event}
+use Rattle.rules.specs.Events.{event}
 use Rattle.effects.specs.Lent.{LentOrdinary}
 use Rattle.effects.proofs.Answers.{after-done, after-refused}
 use Rattle.effects.proofs.Ticking.{ordinary-nowhere, ordinary-refused, ordinary-accepted, flag-busy, flag-idle}

@@ -9,7 +9,8 @@ use Rattle.cpupri.specs.declared.record.Record.{Record}
 use Rattle.rules.specs.Machine.{Machine, taskOf, runnable}
 use Rattle.rules.specs.Events.{sleep}
 use Rattle.rules.specs.Refusals.{firstFailing}
-use Rattle.effects.specs.After.{event, taskIn}
+use Rattle.rules.specs.Events.{event}
+use Rattle.effects.specs.After.{taskIn}
 use Rattle.effects.specs.Lent.{LentSleep}
 use Rattle.effects.proofs.Answers.{answer-of, after-done, after-refused, moved}
 use Rattle.effects.proofs.Accepted.{InState, stoppable}
