@@ -1,0 +1,364 @@
+//! include/qoriwesh.h for Rust: the declarations, and a safe struct of tables over them.
+//!
+//! The tables are vectors, so that any length can be lent.
+
+extern "C" {
+    fn qoriwesh_make_fresh(
+        n: usize,
+        state: *mut u8,
+        state_len: usize,
+        policy: *mut u8,
+        policy_len: usize,
+        prio: *mut u8,
+        prio_len: usize,
+        cpu: *mut u8,
+        cpu_len: usize,
+        slice: *mut u16,
+        slice_len: usize,
+        mask: *mut u64,
+        mask_len: usize,
+        rows: *mut u16,
+        rows_len: usize,
+        counts: *mut u16,
+        counts_len: usize,
+        flags: *mut u8,
+        flags_len: usize,
+        log: *mut u16,
+        log_len: usize,
+        level_masks: *mut u64,
+        level_masks_len: usize,
+        level_counts: *mut u8,
+        level_counts_len: usize,
+        level_words: *mut u64,
+        level_words_len: usize,
+        levels: *mut u8,
+        levels_len: usize,
+    ) -> u8;
+
+    fn qoriwesh_check(
+        n: usize,
+        state: *const u8,
+        state_len: usize,
+        policy: *const u8,
+        policy_len: usize,
+        prio: *const u8,
+        prio_len: usize,
+        cpu: *const u8,
+        cpu_len: usize,
+        slice: *const u16,
+        slice_len: usize,
+        mask: *const u64,
+        mask_len: usize,
+        rows: *const u16,
+        rows_len: usize,
+        counts: *const u16,
+        counts_len: usize,
+        flags: *const u8,
+        flags_len: usize,
+        log: *const u16,
+        log_len: usize,
+        level_masks: *const u64,
+        level_masks_len: usize,
+        level_counts: *const u8,
+        level_counts_len: usize,
+        level_words: *const u64,
+        level_words_len: usize,
+        levels: *const u8,
+        levels_len: usize,
+    ) -> u8;
+
+    fn qoriwesh_event(
+        n: usize,
+        state: *mut u8,
+        state_len: usize,
+        policy: *mut u8,
+        policy_len: usize,
+        prio: *mut u8,
+        prio_len: usize,
+        cpu: *mut u8,
+        cpu_len: usize,
+        slice: *mut u16,
+        slice_len: usize,
+        mask: *mut u64,
+        mask_len: usize,
+        rows: *mut u16,
+        rows_len: usize,
+        counts: *mut u16,
+        counts_len: usize,
+        flags: *mut u8,
+        flags_len: usize,
+        log: *mut u16,
+        log_len: usize,
+        level_masks: *mut u64,
+        level_masks_len: usize,
+        level_counts: *mut u8,
+        level_counts_len: usize,
+        level_words: *mut u64,
+        level_words_len: usize,
+        levels: *mut u8,
+        levels_len: usize,
+        kind: u32,
+        who: u32,
+        a: u32,
+        b: u32,
+        k: u64,
+        moves: *mut u32,
+    ) -> u8;
+
+    fn qoriwesh_find(
+        n: usize,
+        level_masks: *const u64,
+        level_masks_len: usize,
+        level_counts: *const u8,
+        level_counts_len: usize,
+        level_words: *const u64,
+        level_words_len: usize,
+        levels: *const u8,
+        levels_len: usize,
+        level: u32,
+        mask: u64,
+        found_level: *mut u8,
+        found_mask: *mut u64,
+    ) -> u8;
+}
+
+pub const TASKS: usize = 512;
+pub const CPUS: usize = 64;
+pub const LEVELS: usize = 102;
+pub const WORDS: usize = 2;
+pub const LOG: usize = 189;
+/// An unused place of a row, and each number of a fresh log.
+pub const NOTHING: u16 = 65535;
+/// The level of a CPU that is not there, and of a search that finds nothing.
+pub const INVALID: u8 = 255;
+
+/// The five numbers of an event.
+#[derive(Clone, Copy, Debug, PartialEq, Eq)]
+pub struct Event {
+    pub kind: u32,
+    pub who: u32,
+    pub a: u32,
+    pub b: u32,
+    pub mask: u64,
+}
+
+/// What an event answers: 0 and the number of moves, or a refusal.
+#[derive(Clone, Copy, Debug, PartialEq, Eq)]
+pub struct Outcome {
+    pub answer: u8,
+    pub moves: u32,
+}
+
+/// What the finder answers.
+#[derive(Clone, Copy, Debug, PartialEq, Eq)]
+pub struct Found {
+    pub answer: u8,
+    pub level: u8,
+    pub mask: u64,
+}
+
+/// A machine's number of CPUs and its fourteen tables: any numbers, and any lengths.
+#[derive(Clone, Debug, PartialEq, Eq)]
+pub struct Tables {
+    pub n: usize,
+    pub state: Vec<u8>,
+    pub policy: Vec<u8>,
+    pub prio: Vec<u8>,
+    pub cpu: Vec<u8>,
+    pub slice: Vec<u16>,
+    pub mask: Vec<u64>,
+    pub rows: Vec<u16>,
+    pub counts: Vec<u16>,
+    pub flags: Vec<u8>,
+    pub log: Vec<u16>,
+    pub level_masks: Vec<u64>,
+    pub level_counts: Vec<u8>,
+    pub level_words: Vec<u64>,
+    pub levels: Vec<u8>,
+}
+
+impl Tables {
+    /// Tables of the lengths that `n` CPUs ask for, filled with 0: no machine's yet. Over 64 CPUs the lengths
+    /// are those of 64.
+    pub fn zeroed(n: usize) -> Tables {
+        let cpus = n.min(CPUS);
+        Tables {
+            n,
+            state: vec![0; TASKS],
+            policy: vec![0; TASKS],
+            prio: vec![0; TASKS],
+            cpu: vec![0; TASKS],
+            slice: vec![0; TASKS],
+            mask: vec![0; TASKS],
+            rows: vec![0; TASKS * cpus],
+            counts: vec![0; cpus],
+            flags: vec![0; cpus],
+            log: vec![0; LOG],
+            level_masks: vec![0; LEVELS],
+            level_counts: vec![0; LEVELS],
+            level_words: vec![0; WORDS],
+            levels: vec![0; CPUS],
+        }
+    }
+
+    /// A fresh machine of `n` CPUs, or the refusal.
+    pub fn fresh(n: usize) -> Result<Tables, u8> {
+        let mut tables = Tables::zeroed(n);
+        match tables.make_fresh() {
+            0 => Ok(tables),
+            refused => Err(refused),
+        }
+    }
+
+    pub fn make_fresh(&mut self) -> u8 {
+        // Safety: each pointer is a vector's own, with its length, and no two vectors overlap.
+        unsafe {
+            qoriwesh_make_fresh(
+                self.n,
+                self.state.as_mut_ptr(),
+                self.state.len(),
+                self.policy.as_mut_ptr(),
+                self.policy.len(),
+                self.prio.as_mut_ptr(),
+                self.prio.len(),
+                self.cpu.as_mut_ptr(),
+                self.cpu.len(),
+                self.slice.as_mut_ptr(),
+                self.slice.len(),
+                self.mask.as_mut_ptr(),
+                self.mask.len(),
+                self.rows.as_mut_ptr(),
+                self.rows.len(),
+                self.counts.as_mut_ptr(),
+                self.counts.len(),
+                self.flags.as_mut_ptr(),
+                self.flags.len(),
+                self.log.as_mut_ptr(),
+                self.log.len(),
+                self.level_masks.as_mut_ptr(),
+                self.level_masks.len(),
+                self.level_counts.as_mut_ptr(),
+                self.level_counts.len(),
+                self.level_words.as_mut_ptr(),
+                self.level_words.len(),
+                self.levels.as_mut_ptr(),
+                self.levels.len(),
+            )
+        }
+    }
+
+    pub fn check(&self) -> u8 {
+        // Safety: as in `make_fresh`; nothing is written.
+        unsafe {
+            qoriwesh_check(
+                self.n,
+                self.state.as_ptr(),
+                self.state.len(),
+                self.policy.as_ptr(),
+                self.policy.len(),
+                self.prio.as_ptr(),
+                self.prio.len(),
+                self.cpu.as_ptr(),
+                self.cpu.len(),
+                self.slice.as_ptr(),
+                self.slice.len(),
+                self.mask.as_ptr(),
+                self.mask.len(),
+                self.rows.as_ptr(),
+                self.rows.len(),
+                self.counts.as_ptr(),
+                self.counts.len(),
+                self.flags.as_ptr(),
+                self.flags.len(),
+                self.log.as_ptr(),
+                self.log.len(),
+                self.level_masks.as_ptr(),
+                self.level_masks.len(),
+                self.level_counts.as_ptr(),
+                self.level_counts.len(),
+                self.level_words.as_ptr(),
+                self.level_words.len(),
+                self.levels.as_ptr(),
+                self.levels.len(),
+            )
+        }
+    }
+
+    pub fn event(&mut self, e: Event) -> Outcome {
+        let mut moves = 0;
+        // Safety: as in `make_fresh`; `moves` is a local of this function.
+        let answer = unsafe {
+            qoriwesh_event(
+                self.n,
+                self.state.as_mut_ptr(),
+                self.state.len(),
+                self.policy.as_mut_ptr(),
+                self.policy.len(),
+                self.prio.as_mut_ptr(),
+                self.prio.len(),
+                self.cpu.as_mut_ptr(),
+                self.cpu.len(),
+                self.slice.as_mut_ptr(),
+                self.slice.len(),
+                self.mask.as_mut_ptr(),
+                self.mask.len(),
+                self.rows.as_mut_ptr(),
+                self.rows.len(),
+                self.counts.as_mut_ptr(),
+                self.counts.len(),
+                self.flags.as_mut_ptr(),
+                self.flags.len(),
+                self.log.as_mut_ptr(),
+                self.log.len(),
+                self.level_masks.as_mut_ptr(),
+                self.level_masks.len(),
+                self.level_counts.as_mut_ptr(),
+                self.level_counts.len(),
+                self.level_words.as_mut_ptr(),
+                self.level_words.len(),
+                self.levels.as_mut_ptr(),
+                self.levels.len(),
+                e.kind,
+                e.who,
+                e.a,
+                e.b,
+                e.mask,
+                &mut moves,
+            )
+        };
+        Outcome { answer, moves }
+    }
+
+    pub fn find(&self, level: u32, mask: u64) -> Found {
+        let mut found = Found {
+            answer: 0,
+            level: 0,
+            mask: 0,
+        };
+        // Safety: as in `make_fresh`; `found` is a local of this function.
+        found.answer = unsafe {
+            qoriwesh_find(
+                self.n,
+                self.level_masks.as_ptr(),
+                self.level_masks.len(),
+                self.level_counts.as_ptr(),
+                self.level_counts.len(),
+                self.level_words.as_ptr(),
+                self.level_words.len(),
+                self.levels.as_ptr(),
+                self.levels.len(),
+                level,
+                mask,
+                &mut found.level,
+                &mut found.mask,
+            )
+        };
+        found
+    }
+
+    /// The tasks of CPU `c`'s row, in run order. Of well-formed tables.
+    pub fn row(&self, c: usize) -> &[u16] {
+        let from = TASKS * c;
+        &self.rows[from..from + self.counts[c] as usize]
+    }
+}

@@ -1,0 +1,248 @@
+/* SPDX-License-Identifier: MIT */
+/*
+ * Qoriwesh: where SCHED_FIFO and SCHED_RR tasks run on 1 to 64 CPUs.
+ *
+ * The functions are proved: what each answers and what it leaves in every
+ * table is stated in crates/abi, for all tables and all numbers.
+ *
+ * Nothing is allocated, locked or kept between calls. A caller lends the
+ * tables; one call at a time may use them. Each pointer must be valid for its
+ * length, also when the length is wrong, and no two tables may overlap: that
+ * is what the compiler of the library is told, and what no function can check.
+ * Everything else is checked: any length, any number, any contents.
+ *
+ * A refused call leaves every table as it was.
+ */
+#ifndef QORIWESH_H
+#define QORIWESH_H
+
+#include <stddef.h>
+#include <stdint.h>
+
+#ifdef __cplusplus
+extern "C" {
+#endif
+
+/* ---- sizes ---- */
+
+#define QORIWESH_CPUS 64        /* CPUs, at most */
+#define QORIWESH_TASKS 512      /* task places, and places in a row */
+#define QORIWESH_LEVELS 102     /* CPU-priority levels, 0 to 101 */
+#define QORIWESH_WORDS 2        /* words of level bits */
+#define QORIWESH_LOG_ENTRIES 63 /* moves in the log, at most */
+#define QORIWESH_LOG 189        /* log numbers: (task, from, to) for each move */
+
+/* ---- answers: 0, or the first of these that applies ---- */
+
+#define QORIWESH_OK 0
+#define QORIWESH_ESIZE 1     /* N is 0 or over 64, or a table has another length */
+#define QORIWESH_EFORM 2     /* the tables or the record are not well-formed */
+#define QORIWESH_EKIND 3     /* no such kind of event */
+#define QORIWESH_ENUMBER 4   /* no such task place or CPU */
+#define QORIWESH_ESTATE 5    /* the task is not in the state that the event needs */
+#define QORIWESH_EPOLICY 6   /* a policy other than SCHED_FIFO and SCHED_RR */
+#define QORIWESH_EVALUE 7    /* a priority, a flag or a level out of its range */
+#define QORIWESH_EMASK 8     /* an empty mask, or one with a CPU that is not there */
+#define QORIWESH_EEMPTY 9    /* a yield on a CPU with an empty row */
+
+/* ---- events: kind, who, a, b, mask; numbers that a kind does not use are ignored ---- */
+
+#define QORIWESH_ADD 1      /* task who, policy a, priority b, mask: asleep */
+#define QORIWESH_REMOVE 2   /* task who, asleep: free */
+#define QORIWESH_WAKE 3     /* task who, asleep: runnable */
+#define QORIWESH_SLEEP 4    /* task who, runnable: asleep */
+#define QORIWESH_PRIORITY 5 /* task who has priority b */
+#define QORIWESH_AFFINITY 6 /* task who is allowed the CPUs of mask */
+#define QORIWESH_TICK 7     /* a tick on CPU who */
+#define QORIWESH_YIELD 8    /* the task that runs on CPU who yields */
+#define QORIWESH_ORDINARY 9 /* CPU who has ordinary work (b 1) or none (b 0) */
+
+/* ---- values in the tables ---- */
+
+#define QORIWESH_FREE 0     /* state: the place has no task */
+#define QORIWESH_ASLEEP 1   /* state */
+#define QORIWESH_RUNNABLE 2 /* state: running, if first of its row, or waiting */
+
+#define QORIWESH_FIFO 1 /* policy, as SCHED_FIFO */
+#define QORIWESH_RR 2   /* policy, as SCHED_RR */
+
+#define QORIWESH_PRIO_MIN 1
+#define QORIWESH_PRIO_MAX 99 /* the highest */
+#define QORIWESH_SLICE 100   /* ticks of a full slice */
+#define QORIWESH_NOTHING 65535 /* an unused place of a row or of a fresh log */
+
+#define QORIWESH_LEVEL_IDLE 0
+#define QORIWESH_LEVEL_ORDINARY 1
+#define QORIWESH_LEVEL_PRIO(p) ((p) + 2) /* the level of a CPU that runs priority p */
+#define QORIWESH_LEVEL_INVALID 255       /* a CPU that is not there; no level found */
+
+/*
+ * The tables, in the order of the parameters, each with its length:
+ *
+ *   state, policy, prio, cpu, slice, mask   512     a task's columns
+ *   rows                                    n*512   row c from place 512*c on, in run
+ *                                                   order: the first of a row runs
+ *   counts, flags                           n       tasks in a row; ordinary work, 0 or 1
+ *   log                                     189     moves of the last accepted event
+ *
+ * and the CPU-priority record:
+ *
+ *   level_masks, level_counts               102     the CPUs at a level, how many they are
+ *   level_words                             2       bit L%64 of word L/64: level L has a CPU
+ *   levels                                  64      a CPU's level
+ */
+
+/*
+ * Makes the tables those of a fresh machine of n CPUs, whatever they held: all
+ * places free, rows empty, flags 0, the log all 65535, every CPU idle.
+ *
+ * 0 or QORIWESH_ESIZE.
+ */
+uint8_t qoriwesh_make_fresh(
+	size_t n,
+	uint8_t *state, size_t state_len,
+	uint8_t *policy, size_t policy_len,
+	uint8_t *prio, size_t prio_len,
+	uint8_t *cpu, size_t cpu_len,
+	uint16_t *slice, size_t slice_len,
+	uint64_t *mask, size_t mask_len,
+	uint16_t *rows, size_t rows_len,
+	uint16_t *counts, size_t counts_len,
+	uint8_t *flags, size_t flags_len,
+	uint16_t *log, size_t log_len,
+	uint64_t *level_masks, size_t level_masks_len,
+	uint8_t *level_counts, size_t level_counts_len,
+	uint64_t *level_words, size_t level_words_len,
+	uint8_t *levels, size_t levels_len);
+
+/*
+ * Whether the tables are those of a well-formed machine. Writes nothing.
+ *
+ * 0, QORIWESH_ESIZE or QORIWESH_EFORM.
+ */
+uint8_t qoriwesh_check(
+	size_t n,
+	const uint8_t *state, size_t state_len,
+	const uint8_t *policy, size_t policy_len,
+	const uint8_t *prio, size_t prio_len,
+	const uint8_t *cpu, size_t cpu_len,
+	const uint16_t *slice, size_t slice_len,
+	const uint64_t *mask, size_t mask_len,
+	const uint16_t *rows, size_t rows_len,
+	const uint16_t *counts, size_t counts_len,
+	const uint8_t *flags, size_t flags_len,
+	const uint16_t *log, size_t log_len,
+	const uint64_t *level_masks, size_t level_masks_len,
+	const uint8_t *level_counts, size_t level_counts_len,
+	const uint64_t *level_words, size_t level_words_len,
+	const uint8_t *levels, size_t levels_len);
+
+/*
+ * One event, and then one migration after another until no waiting task may go
+ * to a CPU of a lower level.
+ *
+ * 0: *moves is the number of migrations, at most n-1, and log entry i is
+ * migration i: the task, the CPU it waited on, the CPU it went to. Entries from
+ * *moves on are older. The tables are well-formed again, and no waiting task
+ * outranks what runs on any CPU that it is allowed.
+ *
+ * 1 to 9: refused, *moves is 0, and every table is as it was.
+ */
+uint8_t qoriwesh_event(
+	size_t n,
+	uint8_t *state, size_t state_len,
+	uint8_t *policy, size_t policy_len,
+	uint8_t *prio, size_t prio_len,
+	uint8_t *cpu, size_t cpu_len,
+	uint16_t *slice, size_t slice_len,
+	uint64_t *mask, size_t mask_len,
+	uint16_t *rows, size_t rows_len,
+	uint16_t *counts, size_t counts_len,
+	uint8_t *flags, size_t flags_len,
+	uint16_t *log, size_t log_len,
+	uint64_t *level_masks, size_t level_masks_len,
+	uint8_t *level_counts, size_t level_counts_len,
+	uint64_t *level_words, size_t level_words_len,
+	uint8_t *levels, size_t levels_len,
+	uint32_t kind, uint32_t who, uint32_t a, uint32_t b, uint64_t k,
+	uint32_t *moves);
+
+/*
+ * The lowest level below `level` (0 to 101) that has a CPU of `mask`, and which
+ * CPUs of the mask are at it.
+ *
+ * 0: *found_level and *found_mask are that level and those CPUs, or 255 and 0
+ * if there is no such level. QORIWESH_ESIZE, QORIWESH_EFORM (the record is
+ * inconsistent in itself), QORIWESH_EVALUE, QORIWESH_EMASK: 255 and 0 too.
+ */
+uint8_t qoriwesh_find(
+	size_t n,
+	const uint64_t *level_masks, size_t level_masks_len,
+	const uint8_t *level_counts, size_t level_counts_len,
+	const uint64_t *level_words, size_t level_words_len,
+	const uint8_t *levels, size_t levels_len,
+	uint32_t level, uint64_t mask,
+	uint8_t *found_level, uint64_t *found_mask);
+
+/* ---- the same over one struct, for a caller that has no tables of its own ---- */
+
+struct qoriwesh_machine {
+	size_t cpus;
+	uint8_t state[QORIWESH_TASKS];
+	uint8_t policy[QORIWESH_TASKS];
+	uint8_t prio[QORIWESH_TASKS];
+	uint8_t cpu[QORIWESH_TASKS];
+	uint16_t slice[QORIWESH_TASKS];
+	uint64_t mask[QORIWESH_TASKS];
+	uint16_t rows[QORIWESH_CPUS * QORIWESH_TASKS];
+	uint16_t counts[QORIWESH_CPUS];
+	uint8_t flags[QORIWESH_CPUS];
+	uint16_t log[QORIWESH_LOG];
+	uint64_t level_masks[QORIWESH_LEVELS];
+	uint8_t level_counts[QORIWESH_LEVELS];
+	uint64_t level_words[QORIWESH_WORDS];
+	uint8_t levels[QORIWESH_CPUS];
+};
+
+/* The parameters that lend the machine's tables. With over 64 CPUs the lengths are those of 64. */
+#define QORIWESH_LEND_CPUS(m) ((m)->cpus < QORIWESH_CPUS ? (m)->cpus : (size_t)QORIWESH_CPUS)
+#define QORIWESH_LEND(m) \
+	(m)->cpus, \
+	(m)->state, QORIWESH_TASKS, (m)->policy, QORIWESH_TASKS, \
+	(m)->prio, QORIWESH_TASKS, (m)->cpu, QORIWESH_TASKS, \
+	(m)->slice, QORIWESH_TASKS, (m)->mask, QORIWESH_TASKS, \
+	(m)->rows, QORIWESH_TASKS * QORIWESH_LEND_CPUS(m), \
+	(m)->counts, QORIWESH_LEND_CPUS(m), (m)->flags, QORIWESH_LEND_CPUS(m), \
+	(m)->log, QORIWESH_LOG, \
+	(m)->level_masks, QORIWESH_LEVELS, (m)->level_counts, QORIWESH_LEVELS, \
+	(m)->level_words, QORIWESH_WORDS, (m)->levels, QORIWESH_CPUS
+
+/* 0, or -QORIWESH_ESIZE. */
+static inline int qoriwesh_machine_init(struct qoriwesh_machine *m, size_t cpus)
+{
+	m->cpus = cpus;
+	return -(int)qoriwesh_make_fresh(QORIWESH_LEND(m));
+}
+
+/* 0, -QORIWESH_ESIZE or -QORIWESH_EFORM. */
+static inline int qoriwesh_machine_check(const struct qoriwesh_machine *m)
+{
+	return -(int)qoriwesh_check(QORIWESH_LEND(m));
+}
+
+/* The number of moves, or a refusal's number, negative. */
+static inline int qoriwesh_machine_event(struct qoriwesh_machine *m,
+					 uint32_t kind, uint32_t who,
+					 uint32_t a, uint32_t b, uint64_t mask)
+{
+	uint32_t moves;
+	uint8_t answer = qoriwesh_event(QORIWESH_LEND(m), kind, who, a, b, mask, &moves);
+
+	return answer ? -(int)answer : (int)moves;
+}
+
+#ifdef __cplusplus
+}
+#endif
+
+#endif /* QORIWESH_H */
