@@ -1,0 +1,502 @@
+//! The text of events that `explain` reads: one command a line.
+//!
+//! A number that the library can be asked with is passed on, in range or not: refusing is the library's. A
+//! line is wrong only if it gives no event at all.
+
+use binding::Event;
+
+/// The most ticks that one line may ask for.
+pub const MOST_TICKS: u32 = 10_000;
+
+/// What a line asks for.
+#[derive(Clone, Copy, Debug, PartialEq, Eq)]
+pub enum Action {
+    /// A fresh machine of so many CPUs.
+    Machine(usize),
+    /// The same event, so many times.
+    Event { event: Event, times: u32 },
+}
+
+/// A line that asks for something, with its number from 1.
+#[derive(Clone, Copy, Debug, PartialEq, Eq)]
+pub struct Line {
+    pub number: usize,
+    pub action: Action,
+}
+
+/// A line that cannot be read, and why.
+#[derive(Clone, Debug, PartialEq, Eq)]
+pub struct Problem {
+    pub line: usize,
+    pub message: String,
+}
+
+const COMMANDS: &str =
+    "cpus, add, remove, wake, sleep, prio, affinity, tick, yield, ordinary or event";
+
+/// All lines, or every line that cannot be read.
+pub fn parse(text: &[u8]) -> Result<Vec<Line>, Vec<Problem>> {
+    parse_after(text, false)
+}
+
+/// The same; `machine`: there is a machine already, so that the text need not begin with `cpus`.
+pub fn parse_after(text: &[u8], mut machine: bool) -> Result<Vec<Line>, Vec<Problem>> {
+    let mut lines = Vec::new();
+    let mut problems = Vec::new();
+    for (index, bytes) in text.split(|&byte| byte == b'\n').enumerate() {
+        let number = index + 1;
+        match read_line(bytes, machine) {
+            Ok(None) => {}
+            Ok(Some(action)) => lines.push(Line { number, action }),
+            Err(message) => problems.push(Problem {
+                line: number,
+                message,
+            }),
+        }
+        machine = machine || bytes.trim_ascii_start().starts_with(b"cpus");
+    }
+    if lines.is_empty() && problems.is_empty() {
+        problems.push(Problem {
+            line: 1,
+            message: "expected 'cpus N' and events, found nothing".to_string(),
+        });
+    }
+    if problems.is_empty() {
+        Ok(lines)
+    } else {
+        Err(problems)
+    }
+}
+
+/// One line: nothing, if it is blank or a comment. `machine`: a `cpus` line stands above it.
+fn read_line(bytes: &[u8], machine: bool) -> Result<Option<Action>, String> {
+    let text = std::str::from_utf8(bytes).map_err(|_| "expected text in UTF-8".to_string())?;
+    let text = text.split('#').next().unwrap_or("");
+    let words: Vec<&str> = text.split_whitespace().collect();
+    let Some((command, rest)) = words.split_first() else {
+        return Ok(None);
+    };
+    let action = read_action(command, rest)?;
+    if !machine && !matches!(action, Action::Machine(_)) {
+        return Err(format!(
+            "expected 'cpus N' before the first event, found {}",
+            quoted(command)
+        ));
+    }
+    Ok(Some(action))
+}
+
+fn read_action(command: &str, rest: &[&str]) -> Result<Action, String> {
+    match command {
+        "cpus" => {
+            let [n] = exactly(rest, "cpus N")?;
+            Ok(Action::Machine(number(n, "a number of CPUs")?))
+        }
+        "tick" => read_tick(rest),
+        _ => Ok(Action::Event {
+            event: read_event(command, rest)?,
+            times: 1,
+        }),
+    }
+}
+
+fn read_tick(rest: &[&str]) -> Result<Action, String> {
+    let (cpu, times) = match *rest {
+        [cpu] => (cpu, 1),
+        [cpu, times] => (cpu, number(times, "how many ticks")?),
+        _ => return Err(wrong_form("tick CPU [TIMES]", rest)),
+    };
+    if !(1..=MOST_TICKS).contains(&times) {
+        return Err(format!("expected 1 to {MOST_TICKS} ticks, found {times}"));
+    }
+    let event = event(7, cpu_number(cpu)?, 0, 0, 0);
+    Ok(Action::Event { event, times })
+}
+
+fn read_event(command: &str, rest: &[&str]) -> Result<Event, String> {
+    let of_task = |kind, form| -> Result<Event, String> {
+        let [task] = exactly(rest, form)?;
+        Ok(event(kind, task_number(task)?, 0, 0, 0))
+    };
+    match command {
+        "add" => read_add(rest),
+        "remove" => of_task(2, "remove TASK"),
+        "wake" => of_task(3, "wake TASK"),
+        "sleep" => of_task(4, "sleep TASK"),
+        "prio" => {
+            let [task, prio] = exactly(rest, "prio TASK PRIORITY")?;
+            Ok(event(5, task_number(task)?, 0, priority(prio)?, 0))
+        }
+        "affinity" => {
+            let [task, cpus] = exactly(rest, "affinity TASK CPUS")?;
+            Ok(event(6, task_number(task)?, 0, 0, cpu_mask(cpus)?))
+        }
+        "yield" => {
+            let [cpu] = exactly(rest, "yield CPU")?;
+            Ok(event(8, cpu_number(cpu)?, 0, 0, 0))
+        }
+        "ordinary" => {
+            let [cpu, flag] = exactly(rest, "ordinary CPU on|off")?;
+            Ok(event(9, cpu_number(cpu)?, 0, on_or_off(flag)?, 0))
+        }
+        "event" => read_raw(rest),
+        _ => Err(format!("expected {COMMANDS}, found {}", quoted(command))),
+    }
+}
+
+fn read_add(rest: &[&str]) -> Result<Event, String> {
+    let [task, class, prio, cpus] = exactly(rest, "add TASK POLICY PRIORITY CPUS")?;
+    let (task, class, prio) = (task_number(task)?, policy(class)?, priority(prio)?);
+    Ok(event(1, task, class, prio, cpu_mask(cpus)?))
+}
+
+/// The five numbers as the library takes them, so that any event can be tried.
+fn read_raw(rest: &[&str]) -> Result<Event, String> {
+    let [kind, who, a, b, mask] = exactly(rest, "event KIND WHO A B MASK")?;
+    let mask = match hex_digits(mask) {
+        Some(digits) => hex(digits, mask)?,
+        None => number(mask, "a mask")?,
+    };
+    Ok(event(
+        number(kind, "a kind of event")?,
+        number(who, "a number")?,
+        number(a, "a number")?,
+        number(b, "a number")?,
+        mask,
+    ))
+}
+
+fn event(kind: u32, who: u32, a: u32, b: u32, mask: u64) -> Event {
+    Event {
+        kind,
+        who,
+        a,
+        b,
+        mask,
+    }
+}
+
+fn exactly<'a, const K: usize>(rest: &[&'a str], form: &str) -> Result<[&'a str; K], String> {
+    rest.try_into().map_err(|_| wrong_form(form, rest))
+}
+
+fn wrong_form(form: &str, rest: &[&str]) -> String {
+    let command = form.split(' ').next().unwrap_or(form);
+    let found = match rest.len() {
+        0 => "nothing".to_string(),
+        1 => "1 word".to_string(),
+        many => format!("{many} words"),
+    };
+    format!("expected '{form}', found {found} after '{command}'")
+}
+
+fn task_number(word: &str) -> Result<u32, String> {
+    number(word, "a task number")
+}
+
+fn cpu_number(word: &str) -> Result<u32, String> {
+    number(word, "a CPU number")
+}
+
+fn priority(word: &str) -> Result<u32, String> {
+    number(word, "a priority")
+}
+
+/// A decimal number that fits its type: the library can be asked with no other.
+fn number<T: std::str::FromStr>(word: &str, what: &str) -> Result<T, String> {
+    if word.is_empty() || !word.bytes().all(|byte| byte.is_ascii_digit()) {
+        return Err(format!("expected {what}, found {}", quoted(word)));
+    }
+    word.parse().map_err(|_| {
+        let bits = 8 * std::mem::size_of::<T>();
+        format!("expected {what} of {bits} bits, found {}", quoted(word))
+    })
+}
+
+/// The kernel's names and numbers. Only fifo and rr are handled; the library refuses the others.
+fn policy(word: &str) -> Result<u32, String> {
+    let lower = word.to_ascii_lowercase();
+    match lower.strip_prefix("sched_").unwrap_or(&lower) {
+        "other" | "normal" => Ok(0),
+        "fifo" => Ok(1),
+        "rr" => Ok(2),
+        "batch" => Ok(3),
+        "idle" => Ok(5),
+        "deadline" => Ok(6),
+        _ => number(word, "a policy (fifo, rr or a number)"),
+    }
+}
+
+fn on_or_off(word: &str) -> Result<u32, String> {
+    match word {
+        "on" => Ok(1),
+        "off" => Ok(0),
+        _ => number(word, "on, off or a number"),
+    }
+}
+
+/// A list of CPUs (`0-1,3`, `0-7:2`) or a mask (`0x0b`).
+fn cpu_mask(word: &str) -> Result<u64, String> {
+    if let Some(digits) = hex_digits(word) {
+        return hex(digits, word);
+    }
+    let mut mask = 0;
+    for part in word.split(',') {
+        mask |= cpu_range(part, word)?;
+    }
+    Ok(mask)
+}
+
+/// One part of a list: `3`, `0-7`, or every second of them, `0-7:2`.
+fn cpu_range(part: &str, word: &str) -> Result<u64, String> {
+    let wrong = || {
+        format!(
+            "expected CPUs as a list (0-1,3) or a mask (0x0b), found {}",
+            quoted(word)
+        )
+    };
+    let (range, step) = match part.split_once(':') {
+        None => (part, 1),
+        Some((range, step)) if range.contains('-') => {
+            (range, number::<usize>(step, "").map_err(|_| wrong())?)
+        }
+        Some(_) => return Err(wrong()),
+    };
+    let (first, last) = range.split_once('-').unwrap_or((range, range));
+    let first: u32 = number(first, "").map_err(|_| wrong())?;
+    let last: u32 = number(last, "").map_err(|_| wrong())?;
+    if last > 63 {
+        return Err(format!(
+            "expected CPUs 0 to 63, which a mask of 64 bits can name, found {}",
+            quoted(word)
+        ));
+    }
+    if first > last || step == 0 {
+        return Err(wrong());
+    }
+    Ok((first..=last)
+        .step_by(step)
+        .fold(0, |mask, cpu| mask | 1 << cpu))
+}
+
+fn hex_digits(word: &str) -> Option<&str> {
+    word.strip_prefix("0x").or_else(|| word.strip_prefix("0X"))
+}
+
+fn hex(digits: &str, word: &str) -> Result<u64, String> {
+    if digits.bytes().all(|byte| byte.is_ascii_hexdigit()) {
+        if let Ok(mask) = u64::from_str_radix(digits, 16) {
+            return Ok(mask);
+        }
+    }
+    Err(format!(
+        "expected a mask of 64 bits (0x0b), found {}",
+        quoted(word)
+    ))
+}
+
+/// What stands in the text, short and without control characters.
+fn quoted(word: &str) -> String {
+    let shown: String = word.chars().take(40).flat_map(char::escape_debug).collect();
+    let rest = if word.chars().count() > 40 { "..." } else { "" };
+    format!("'{shown}{rest}'")
+}
+
+#[cfg(test)]
+mod tests {
+    use super::*;
+
+    fn one(line: &str) -> Result<Action, String> {
+        let text = format!("cpus 4\n{line}\n");
+        match parse(text.as_bytes()) {
+            Ok(lines) => {
+                assert_eq!(lines.len(), 2, "{line}");
+                assert_eq!(lines[1].number, 2);
+                Ok(lines[1].action)
+            }
+            Err(problems) => {
+                assert_eq!(problems.len(), 1, "{line}");
+                assert_eq!(problems[0].line, 2);
+                Err(problems[0].message.clone())
+            }
+        }
+    }
+
+    fn is(line: &str, kind: u32, who: u32, a: u32, b: u32, mask: u64) {
+        let expected = Action::Event {
+            event: event(kind, who, a, b, mask),
+            times: 1,
+        };
+        assert_eq!(one(line), Ok(expected), "{line}");
+    }
+
+    #[test]
+    fn every_command_is_its_event() {
+        is("add 0 fifo 30 0-1", 1, 0, 1, 30, 3);
+        is("add 511 rr 99 3", 1, 511, 2, 99, 8);
+        is("remove 7", 2, 7, 0, 0, 0);
+        is("wake 7", 3, 7, 0, 0, 0);
+        is("sleep 7", 4, 7, 0, 0, 0);
+        is("prio 7 45", 5, 7, 0, 45, 0);
+        is("affinity 7 1,2", 6, 7, 0, 0, 6);
+        is("tick 1", 7, 1, 0, 0, 0);
+        is("yield 1", 8, 1, 0, 0, 0);
+        is("ordinary 1 on", 9, 1, 0, 1, 0);
+        is("ordinary 1 off", 9, 1, 0, 0, 0);
+        is("event 10 1 2 3 0xff", 10, 1, 2, 3, 255);
+        is("event 3 0 0 0 18446744073709551615", 3, 0, 0, 0, u64::MAX);
+    }
+
+    #[test]
+    fn a_tick_may_be_repeated() {
+        let Ok(Action::Event { event: tick, times }) = one("tick 2 99") else {
+            panic!("no event");
+        };
+        assert_eq!((tick.kind, tick.who, times), (7, 2, 99));
+        assert_eq!(
+            one("tick 2 0").unwrap_err(),
+            "expected 1 to 10000 ticks, found 0"
+        );
+        assert!(one("tick 2 10000").is_ok());
+        assert!(one("tick 2 10001").is_err());
+    }
+
+    #[test]
+    fn lists_and_masks() {
+        for (word, mask) in [
+            ("0", 1),
+            ("0-1,3", 0b1011),
+            ("3,0-1", 0b1011),
+            ("0-7:2", 0b0101_0101),
+            ("1-6:3", 0b0001_0010),
+            ("63", 1 << 63),
+            ("0-63", u64::MAX),
+            ("0x0", 0),
+            ("0XB", 0b1011),
+            ("0xffffffffffffffff", u64::MAX),
+        ] {
+            assert_eq!(cpu_mask(word), Ok(mask), "{word}");
+        }
+    }
+
+    #[test]
+    fn lists_and_masks_that_are_none() {
+        for word in [
+            "",
+            ",",
+            "1,",
+            "1-",
+            "-1",
+            "2-1",
+            "a",
+            "0-3:0",
+            "0-3:",
+            "3:2",
+            "1--2",
+            "+1",
+            "0x",
+            "0xg",
+            "0x+1",
+            "64",
+            "0-64",
+            "99999999999",
+            "0x10000000000000000",
+            "1;2",
+        ] {
+            assert!(cpu_mask(word).is_err(), "{word:?} was read");
+        }
+    }
+
+    #[test]
+    fn policies_by_name_and_number() {
+        for (word, number) in [
+            ("fifo", 1),
+            ("FIFO", 1),
+            ("SCHED_FIFO", 1),
+            ("rr", 2),
+            ("sched_rr", 2),
+            ("other", 0),
+            ("deadline", 6),
+            ("1", 1),
+            ("77", 77),
+        ] {
+            assert_eq!(policy(word), Ok(number), "{word}");
+        }
+        assert!(policy("fif").is_err());
+        assert!(policy("-1").is_err());
+    }
+
+    #[test]
+    fn numbers_that_the_library_can_refuse_are_events() {
+        is("wake 600", 3, 600, 0, 0, 0);
+        is("add 0 9 100 5", 1, 0, 9, 100, 32);
+        is("add 0 fifo 0 0x0", 1, 0, 1, 0, 0);
+        is("yield 4294967295", 8, u32::MAX, 0, 0, 0);
+        is("ordinary 0 2", 9, 0, 0, 2, 0);
+        for n in [0, 65, usize::MAX] {
+            let text = format!("cpus {n}");
+            let action = Action::Machine(n);
+            assert_eq!(parse(text.as_bytes()), Ok(vec![Line { number: 1, action }]));
+        }
+    }
+
+    #[test]
+    fn wrong_forms_say_what_was_expected() {
+        for (line, message) in [
+            ("wake", "expected 'wake TASK', found nothing after 'wake'"),
+            ("wake 1 2", "expected 'wake TASK', found 2 words after 'wake'"),
+            ("cpus", "expected 'cpus N', found nothing after 'cpus'"),
+            ("wake x", "expected a task number, found 'x'"),
+            ("wake -1", "expected a task number, found '-1'"),
+            ("wake +1", "expected a task number, found '+1'"),
+            ("wake 4294967296", "expected a task number of 32 bits, found '4294967296'"),
+            ("tick", "expected 'tick CPU [TIMES]', found nothing after 'tick'"),
+            ("yield c", "expected a CPU number, found 'c'"),
+            ("prio 0 high", "expected a priority, found 'high'"),
+            ("ordinary 0 yes", "expected on, off or a number, found 'yes'"),
+            ("add 0 fifo 30", "expected 'add TASK POLICY PRIORITY CPUS', found 3 words after 'add'"),
+            ("add 0 edf 3 0", "expected a policy (fifo, rr or a number), found 'edf'"),
+            ("affinity 0 x", "expected CPUs as a list (0-1,3) or a mask (0x0b), found 'x'"),
+            ("affinity 0 64", "expected CPUs 0 to 63, which a mask of 64 bits can name, found '64'"),
+            ("event 1 2 3 4 x", "expected a mask, found 'x'"),
+            ("halt 1", "expected cpus, add, remove, wake, sleep, prio, affinity, tick, yield, ordinary or event, found 'halt'"),
+            ("wake \u{7}", "expected a task number, found '\\u{7}'"),
+        ] {
+            assert_eq!(one(line), Err(message.to_string()), "{line}");
+        }
+    }
+
+    #[test]
+    fn comments_blank_lines_and_line_ends() {
+        let text = b"# first\n\n  cpus 2 # two\r\n\twake\t0\r\n#\n   \nsleep 0#end";
+        let lines = parse(text).unwrap();
+        let numbers: Vec<usize> = lines.iter().map(|line| line.number).collect();
+        assert_eq!(numbers, [3, 4, 7]);
+    }
+
+    #[test]
+    fn every_wrong_line_is_told() {
+        let text = b"wake 0\ncpus 2\nwake\nwake 0\nwak 0\n\xff\n";
+        let problems = parse(text).unwrap_err();
+        let lines: Vec<usize> = problems.iter().map(|problem| problem.line).collect();
+        assert_eq!(lines, [1, 3, 5, 6]);
+        assert_eq!(
+            problems[0].message,
+            "expected 'cpus N' before the first event, found 'wake'"
+        );
+        assert_eq!(problems[3].message, "expected text in UTF-8");
+    }
+
+    #[test]
+    fn a_wrong_cpus_line_does_not_spoil_the_lines_below() {
+        let problems = parse(b"cpus x\nwake 0\n").unwrap_err();
+        assert_eq!(problems.len(), 1);
+    }
+
+    #[test]
+    fn nothing_to_run_is_an_error() {
+        for text in ["", "\n", "# only this\n"] {
+            assert_eq!(parse(text.as_bytes()).unwrap_err()[0].line, 1);
+        }
+    }
+}

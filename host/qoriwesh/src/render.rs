@@ -1,0 +1,254 @@
+//! Rows, levels and moves as aligned lines of at most 80 columns.
+
+use crate::reasons::{Displaced, Move};
+use crate::words;
+use binding::Tables;
+
+/// Columns of a line, at most.
+pub const WIDTH: usize = 80;
+
+/// CPUs side by side that show the same, and what they show.
+struct Cpus {
+    first: usize,
+    last: usize,
+    level: u8,
+    runs: String,
+    waits: String,
+}
+
+/// A line for each CPU: its level, what runs and what waits. Neighbours without a task share a line.
+pub fn state(tables: &Tables) -> Vec<String> {
+    let mut shown: Vec<Cpus> = Vec::new();
+    for cpu in 0..tables.n {
+        let next = cpus(tables, cpu);
+        match shown.last_mut() {
+            Some(last) if tables.row(cpu).is_empty() && last.runs == next.runs => last.last = cpu,
+            _ => shown.push(next),
+        }
+    }
+    let labels: Vec<String> = shown.iter().map(label).collect();
+    let label_width = widest(&labels);
+    let runs_width = shown.iter().map(|cpus| cpus.runs.len()).max().unwrap_or(0);
+    let line = |(cpus, label): (&Cpus, &String)| {
+        let Cpus {
+            level, runs, waits, ..
+        } = cpus;
+        format!("{label:<label_width$}  level {level:>3}  {runs:<runs_width$}  {waits}")
+            .trim_end()
+            .to_string()
+    };
+    shown.iter().zip(&labels).map(line).collect()
+}
+
+fn cpus(tables: &Tables, cpu: usize) -> Cpus {
+    let (row, busy) = (tables.row(cpu), tables.flags[cpu] == 1);
+    let (runs, waits) = match row.split_first() {
+        None if busy => ("ordinary work".to_string(), String::new()),
+        None => ("idle".to_string(), String::new()),
+        Some((&first, rest)) => {
+            let mut waits: Vec<String> = rest.iter().map(|&task| numbered(tables, task)).collect();
+            waits.extend(busy.then(|| "ordinary work".to_string()));
+            let waits = match waits.is_empty() {
+                true => String::new(),
+                false => format!("waiting: {}", waits.join(", ")),
+            };
+            (format!("task {}", numbered(tables, first)), waits)
+        }
+    };
+    Cpus {
+        first: cpu,
+        last: cpu,
+        level: tables.levels[cpu],
+        runs,
+        waits,
+    }
+}
+
+fn label(cpus: &Cpus) -> String {
+    if cpus.first == cpus.last {
+        format!("CPU {}", cpus.first)
+    } else {
+        format!("CPU {}-{}", cpus.first, cpus.last)
+    }
+}
+
+/// `3 (40)`: task 3 of priority 40. An rr task also shows the ticks it has left: `3 (40, rr 100)`.
+fn numbered(tables: &Tables, task: u16) -> String {
+    let at = task as usize;
+    match tables.policy[at] {
+        2 => format!("{task} ({}, rr {})", tables.prio[at], tables.slice[at]),
+        _ => format!("{task} ({})", tables.prio[at]),
+    }
+}
+
+/// A line for each move: who, from where to where, over what, and the destination's level before and after.
+pub fn moves(moves: &[Move]) -> Vec<String> {
+    let row = |(index, m): (usize, &Move)| {
+        [
+            format!("move {}", index + 1),
+            format!("task {} ({})", m.task, m.prio),
+            format!("CPU {} -> {}", m.from, m.to),
+            over(m.displaced),
+            format!("level {} -> {}", m.displaced.level(), m.prio + 2),
+        ]
+    };
+    let rows: Vec<[String; 5]> = moves.iter().enumerate().map(row).collect();
+    let mut widths = [0; 5];
+    for row in &rows {
+        for (width, cell) in widths.iter_mut().zip(row) {
+            *width = cell.len().max(*width);
+        }
+    }
+    let aligned = |row: &[String; 5]| {
+        let cell = |(text, width): (&String, &usize)| format!("{text:<width$}");
+        let cells: Vec<String> = row.iter().zip(&widths).map(cell).collect();
+        cells.join("  ").trim_end().to_string()
+    };
+    rows.iter().map(aligned).collect()
+}
+
+fn over(displaced: Displaced) -> String {
+    match displaced {
+        Displaced::Idle => "which was idle".to_string(),
+        Displaced::Ordinary => "over ordinary work".to_string(),
+        Displaced::Task { task, prio } => format!("over task {task} ({prio})"),
+    }
+}
+
+/// Rows as document 01 writes them: `[0,2] [1]`.
+pub fn brackets<'a>(rows: impl Iterator<Item = &'a [u16]>) -> String {
+    let row = |row: &[u16]| {
+        let numbers: Vec<String> = row.iter().map(u16::to_string).collect();
+        format!("[{}]", numbers.join(","))
+    };
+    rows.map(row).collect::<Vec<_>>().join(" ")
+}
+
+/// `a machine of 3 CPUs`.
+pub fn machine(n: usize) -> String {
+    match n {
+        1 => "a machine of 1 CPU".to_string(),
+        _ => format!("a machine of {n} CPUs"),
+    }
+}
+
+/// The text in lines of at most 80 columns: the first indented by `first`, the others by `rest`. Lines
+/// break at spaces, and inside a list of CPUs that fits no line, after a comma.
+pub fn wrap(text: &str, first: usize, rest: usize) -> Vec<String> {
+    let mut lines = Vec::new();
+    let mut line = " ".repeat(first);
+    let mut fresh = true;
+    for word in text.split(' ') {
+        for (index, piece) in pieces(word, WIDTH - rest).iter().enumerate() {
+            let space = usize::from(!fresh);
+            if index > 0 || (!fresh && line.len() + space + piece.len() > WIDTH) {
+                lines.push(line.trim_end().to_string());
+                line = " ".repeat(rest);
+            } else if !fresh {
+                line.push(' ');
+            }
+            line.push_str(piece);
+            fresh = false;
+        }
+    }
+    lines.push(line.trim_end().to_string());
+    lines
+}
+
+/// A word in pieces that fit a line.
+fn pieces(word: &str, room: usize) -> Vec<String> {
+    if word.len() <= room {
+        return vec![word.to_string()];
+    }
+    let mut pieces = vec![String::new()];
+    for part in word.split_inclusive(',') {
+        match pieces.last_mut() {
+            Some(last) if last.len() + part.len() <= room => last.push_str(part),
+            _ => pieces.push(part.to_string()),
+        }
+    }
+    pieces
+}
+
+fn widest(texts: &[String]) -> usize {
+    texts.iter().map(String::len).max().unwrap_or(0)
+}
+
+/// Numbers with spaces between them.
+pub fn spaced<T: ToString>(numbers: impl Iterator<Item = T>) -> String {
+    let texts: Vec<String> = numbers.map(|number| number.to_string()).collect();
+    texts.join(" ")
+}
+
+/// The event with how often it came, if more than once.
+pub fn event(e: binding::Event, times: u32) -> String {
+    match times {
+        1 => words::event(e),
+        _ => format!("{}, {times} times", words::event(e)),
+    }
+}
+
+#[cfg(test)]
+mod tests {
+    use super::*;
+
+    #[test]
+    fn wrapping_breaks_at_spaces() {
+        let text = "word ".repeat(40);
+        for line in wrap(text.trim(), 2, 6) {
+            assert!(line.len() <= WIDTH && line.len() > 70 || line.starts_with("      "));
+        }
+        assert_eq!(wrap("short", 4, 6), ["    short"]);
+        assert_eq!(wrap("a  b", 0, 2), ["a  b"]);
+    }
+
+    #[test]
+    fn wrapping_breaks_long_lists_after_commas() {
+        let list: Vec<String> = (0..64).step_by(2).map(|cpu| cpu.to_string()).collect();
+        let text = format!("CPUs {} for task 0", list.join(","));
+        let lines = wrap(&text, 6, 6);
+        assert!(lines.len() > 1);
+        assert!(lines.iter().all(|line| line.len() <= WIDTH), "{lines:?}");
+        let joined: String = lines.iter().map(|line| line.trim()).collect();
+        assert_eq!(joined.replace(' ', ""), text.replace(' ', ""));
+    }
+
+    #[test]
+    fn neighbours_without_a_task_share_a_line() {
+        let mut tables = Tables::fresh(64).unwrap();
+        assert_eq!(state(&tables), ["CPU 0-63  level   0  idle"]);
+        let ordinary = binding::Event {
+            kind: 9,
+            who: 2,
+            a: 0,
+            b: 1,
+            mask: 0,
+        };
+        assert_eq!(tables.event(ordinary).answer, 0);
+        assert_eq!(
+            state(&tables),
+            [
+                "CPU 0-1   level   0  idle",
+                "CPU 2     level   1  ordinary work",
+                "CPU 3-63  level   0  idle"
+            ]
+        );
+    }
+
+    #[test]
+    fn the_widest_moves_fit_a_line() {
+        let widest = Move {
+            task: 511,
+            prio: 99,
+            from: 63,
+            to: 62,
+            displaced: Displaced::Task {
+                task: 510,
+                prio: 98,
+            },
+        };
+        for line in moves(&[widest; 63]) {
+            assert!(line.len() + 6 <= WIDTH, "{line}");
+        }
+    }
+}

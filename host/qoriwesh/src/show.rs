@@ -1,0 +1,283 @@
+//! Runs actions on a machine and shows what each did.
+
+use crate::parse::Action;
+use crate::reasons::{self, Move};
+use crate::{render, words};
+use binding::{Event, Tables};
+use std::io::{self, Write};
+
+/// Where an event's answer begins, if it stands on the event's line.
+const ANSWER: usize = 60;
+/// Where what belongs to an event begins.
+const INDENT: usize = 6;
+
+/// Why nothing more can be shown.
+#[derive(Debug)]
+pub enum Failure {
+    /// The output cannot be written.
+    Output(io::Error),
+    /// The library's answer does not fit its tables.
+    Defect(String),
+}
+
+impl From<io::Error> for Failure {
+    fn from(error: io::Error) -> Failure {
+        Failure::Output(error)
+    }
+}
+
+/// What the last event, or the making of a machine, answered.
+#[derive(Clone, Debug, Default, PartialEq, Eq)]
+pub struct Step {
+    pub answer: u8,
+    pub moves: Vec<Move>,
+}
+
+/// How many events were accepted and refused, and the moves. A refused machine counts as refused.
+#[derive(Clone, Copy, Debug, Default, PartialEq, Eq)]
+pub struct Tally {
+    pub accepted: u64,
+    pub refused: u64,
+    pub moves: u64,
+}
+
+/// A machine, and where its story is told.
+pub struct Show<'a> {
+    out: &'a mut dyn Write,
+    pub tables: Tables,
+    /// The tables are a machine's: until a machine is made, the library refuses every event with 1.
+    made: bool,
+    /// The rows and levels shown last.
+    shown: Vec<String>,
+    pub tally: Tally,
+}
+
+impl<'a> Show<'a> {
+    pub fn new(out: &'a mut dyn Write) -> Show<'a> {
+        Show {
+            out,
+            tables: Tables::zeroed(0),
+            made: false,
+            shown: Vec::new(),
+            tally: Tally::default(),
+        }
+    }
+
+    /// Goes on with a machine that another run made, and shows it.
+    pub fn resume(out: &'a mut dyn Write, tables: Tables) -> Result<Show<'a>, Failure> {
+        let mut show = Show::new(out);
+        show.tables = tables;
+        show.made = true;
+        show.state()?;
+        Ok(show)
+    }
+
+    /// Does what a line asks for; `number` is shown before it. The last step of it is handed back.
+    pub fn action(&mut self, number: usize, action: Action) -> Result<Step, Failure> {
+        match action {
+            Action::Machine(n) => self.machine(number, n),
+            Action::Event { event, times } => self.events(number, event, times),
+        }
+    }
+
+    /// Makes a fresh machine. If that is refused, the earlier one stays.
+    fn machine(&mut self, number: usize, n: usize) -> Result<Step, Failure> {
+        let mut fresh = Tables::zeroed(n);
+        let answer = fresh.make_fresh();
+        let title = render::machine(n);
+        if answer == 0 {
+            self.shown = render::state(&fresh);
+            self.titled(number, &title, "made, all idle")?;
+        } else {
+            self.tally.refused += 1;
+            let stays = match self.made {
+                true => "the earlier machine stays as it was",
+                false => "there is no machine",
+            };
+            let why = words::refused_machine(answer, n);
+            self.titled(number, &title, &format!("{why}; {stays}"))?;
+        }
+        if answer == 0 || !self.made {
+            self.tables = fresh;
+            self.made = answer == 0;
+        }
+        Ok(Step {
+            answer,
+            moves: Vec::new(),
+        })
+    }
+
+    /// The same event several times. Those without moves are shown together; a refusal ends them.
+    fn events(&mut self, number: usize, event: Event, times: u32) -> Result<Step, Failure> {
+        let mut quiet = 0;
+        let mut last = Step::default();
+        for _ in 0..times {
+            let before = self.tables.clone();
+            last = handle(&mut self.tables, event)?;
+            self.count(&last);
+            if last.answer == 0 && last.moves.is_empty() {
+                quiet += 1;
+                continue;
+            }
+            self.quiet(number, event, quiet, &before)?;
+            quiet = 0;
+            self.step(number, event, &last)?;
+            if last.answer != 0 {
+                return Ok(last);
+            }
+        }
+        let tables = self.tables.clone();
+        self.quiet(number, event, quiet, &tables)?;
+        Ok(last)
+    }
+
+    fn count(&mut self, step: &Step) {
+        self.tally.accepted += u64::from(step.answer == 0);
+        self.tally.refused += u64::from(step.answer != 0);
+        self.tally.moves += step.moves.len() as u64;
+    }
+
+    /// Shows accepted events without moves, and the rows after them.
+    fn quiet(&mut self, n: usize, e: Event, times: u32, after: &Tables) -> Result<(), Failure> {
+        if times == 0 {
+            return Ok(());
+        }
+        self.titled(n, &render::event(e, times), &words::accepted(0))?;
+        self.changed(after)
+    }
+
+    /// Shows one event that was refused or made moves.
+    fn step(&mut self, number: usize, event: Event, step: &Step) -> Result<(), Failure> {
+        let title = render::event(event, 1);
+        if step.answer != 0 {
+            let why = words::refused(step.answer, event, &self.tables);
+            return self.titled(number, &title, &format!("{why}; nothing was changed"));
+        }
+        self.titled(number, &title, &words::accepted(step.moves.len()))?;
+        for line in render::moves(&step.moves) {
+            self.line(&line)?;
+        }
+        self.state()
+    }
+
+    /// A number, what is done and what is answered: on one line if there is room.
+    fn titled(&mut self, number: usize, title: &str, answer: &str) -> Result<(), Failure> {
+        let line = format!("{number:>4}  {title}");
+        if line.len() + 2 <= ANSWER && ANSWER + answer.len() <= render::WIDTH {
+            writeln!(self.out, "{line:<ANSWER$}{answer}")?;
+            return Ok(());
+        }
+        for line in render::wrap(&line, 0, INDENT) {
+            writeln!(self.out, "{line}")?;
+        }
+        self.line(answer)
+    }
+
+    /// Rows and levels, if they are not those shown last.
+    fn changed(&mut self, tables: &Tables) -> Result<(), Failure> {
+        let state = render::state(tables);
+        if state == self.shown {
+            return Ok(());
+        }
+        for line in &state {
+            self.line(line)?;
+        }
+        self.shown = state;
+        Ok(())
+    }
+
+    fn state(&mut self) -> Result<(), Failure> {
+        let tables = self.tables.clone();
+        self.changed(&tables)
+    }
+
+    /// A text below an event.
+    pub fn line(&mut self, text: &str) -> Result<(), Failure> {
+        for line in render::wrap(text, INDENT, INDENT + 2) {
+            writeln!(self.out, "{line}")?;
+        }
+        Ok(())
+    }
+}
+
+/// One event through the library, with the reasons of its moves. That a refusal changes nothing is looked at.
+fn handle(tables: &mut Tables, event: Event) -> Result<Step, Failure> {
+    let before = tables.clone();
+    let outcome = tables.event(event);
+    if outcome.answer != 0 && (*tables != before || outcome.moves != 0) {
+        return Err(Failure::Defect(format!(
+            "refusal {} of '{}' changed something",
+            outcome.answer,
+            words::event(event)
+        )));
+    }
+    let moves = match outcome.answer {
+        0 => reasons::moves(&before, event, tables, outcome.moves).map_err(Failure::Defect)?,
+        _ => Vec::new(),
+    };
+    Ok(Step {
+        answer: outcome.answer,
+        moves,
+    })
+}
+
+#[cfg(test)]
+mod tests {
+    use super::*;
+    use crate::parse::parse;
+
+    fn told(text: &str) -> (String, Tally) {
+        let mut out = Vec::new();
+        let mut show = Show::new(&mut out);
+        for line in parse(text.as_bytes()).unwrap() {
+            show.action(line.number, line.action).unwrap();
+        }
+        let tally = show.tally;
+        (String::from_utf8(out).unwrap(), tally)
+    }
+
+    #[test]
+    fn a_refused_machine_leaves_the_earlier_one() {
+        let (text, tally) = told("cpus 2\ncpus 65\nadd 0 fifo 9 1\nwake 0");
+        assert!(text.contains("not 65; the earlier machine stays"), "{text}");
+        assert!(text.contains("CPU 1  level  11  task 0 (9)"), "{text}");
+        assert_eq!((tally.accepted, tally.refused), (2, 1));
+    }
+
+    #[test]
+    fn without_a_machine_every_event_is_refused_with_1() {
+        let (text, tally) = told("cpus 0\nwake 0\ncpus 1\nadd 0 fifo 9 0");
+        assert!(text.contains("not 0; there is no machine"), "{text}");
+        assert!(text.contains("refused (1)"), "{text}");
+        assert_eq!((tally.accepted, tally.refused), (1, 2));
+    }
+
+    /// Two rr tasks of CPU 0 take turns; task 0, put behind, may go to CPU 1 after the flag is gone.
+    #[test]
+    fn a_tick_that_moves_is_shown_by_itself() {
+        let (text, tally) = told(
+            "cpus 2\nadd 0 rr 9 0-1\nadd 1 rr 9 0\nadd 2 fifo 5 1\nwake 0\nwake 1\nwake 2\n\
+             tick 0 105",
+        );
+        assert!(text.contains("tick on CPU 0, 99 times"), "{text}");
+        assert!(
+            text.contains("move 1  task 0 (9)  CPU 0 -> 1  over task 2 (5)"),
+            "{text}"
+        );
+        assert!(text.contains("tick on CPU 0, 5 times"), "{text}");
+        assert_eq!((tally.accepted, tally.moves), (6 + 105, 1));
+    }
+
+    #[test]
+    fn refused_ticks_are_not_repeated() {
+        let (text, tally) = told("cpus 2\ntick 2 50");
+        assert_eq!(text.matches("refused (4)").count(), 1);
+        assert_eq!(tally.refused, 1);
+    }
+
+    #[test]
+    fn rows_are_shown_when_they_changed() {
+        let (text, _) = told("cpus 1\nadd 0 fifo 9 0\nwake 0\ntick 0\nprio 0 9");
+        assert_eq!(text.matches("CPU 0  level").count(), 1, "{text}");
+    }
+}

@@ -1,0 +1,244 @@
+//! Events, answers and CPUs in words.
+
+use binding::{Event, Tables, TASKS};
+
+/// CPUs as a list: `0-1,3`. No CPU is `none`.
+pub fn cpu_list(mask: u64) -> String {
+    let mut parts: Vec<String> = Vec::new();
+    let mut cpu = 0;
+    while cpu < 64 {
+        let run = (mask >> cpu).trailing_ones();
+        match run {
+            0 => cpu += 1,
+            1 => parts.push(cpu.to_string()),
+            _ => parts.push(format!("{cpu}-{}", cpu + run - 1)),
+        }
+        cpu += run;
+    }
+    if parts.is_empty() {
+        "none".to_string()
+    } else {
+        parts.join(",")
+    }
+}
+
+/// `CPU 3`, `CPUs 0-1` or `no CPU`.
+fn cpus(mask: u64) -> String {
+    match mask.count_ones() {
+        0 => "no CPU".to_string(),
+        1 => format!("CPU {}", cpu_list(mask)),
+        _ => format!("CPUs {}", cpu_list(mask)),
+    }
+}
+
+/// A policy by its kernel name, else by its number.
+fn policy(number: u32) -> String {
+    match number {
+        1 => "fifo".to_string(),
+        2 => "rr".to_string(),
+        _ => format!("policy {number}"),
+    }
+}
+
+/// An event in words.
+pub fn event(e: Event) -> String {
+    let Event {
+        kind,
+        who,
+        a,
+        b,
+        mask,
+    } = e;
+    match kind {
+        1 => format!(
+            "add task {who}: {}, priority {b}, {}",
+            policy(a),
+            cpus(mask)
+        ),
+        2 => format!("remove task {who}"),
+        3 => format!("wake task {who}"),
+        4 => format!("sleep task {who}"),
+        5 => format!("priority {b} for task {who}"),
+        6 => format!("{} for task {who}", cpus(mask)),
+        7 => format!("tick on CPU {who}"),
+        8 => format!("yield on CPU {who}"),
+        9 => match b {
+            0 => format!("no ordinary work on CPU {who}"),
+            1 => format!("ordinary work on CPU {who}"),
+            _ => format!("ordinary work {b} on CPU {who}"),
+        },
+        _ => format!("event {kind} {who} {a} {b} {mask:#x}"),
+    }
+}
+
+/// `accepted, 2 moves`.
+pub fn accepted(moves: usize) -> String {
+    match moves {
+        1 => "accepted, 1 move".to_string(),
+        _ => format!("accepted, {moves} moves"),
+    }
+}
+
+/// `refused (5): task 3 is runnable, not asleep`. The tables are those that the event was refused on.
+pub fn refused(answer: u8, e: Event, tables: &Tables) -> String {
+    format!("refused ({answer}): {}", reason(answer, e, tables))
+}
+
+/// The refusal of a machine of `n` CPUs.
+pub fn refused_machine(answer: u8, n: usize) -> String {
+    format!("refused ({answer}): {}", no_machine(n))
+}
+
+fn no_machine(n: usize) -> String {
+    format!("a machine has 1 to 64 CPUs, not {n}")
+}
+
+fn reason(answer: u8, e: Event, tables: &Tables) -> String {
+    match answer {
+        1 => no_machine(tables.n),
+        2 => "the tables are not well-formed".to_string(),
+        3 => format!("there is no event of kind {}", e.kind),
+        4 if e.kind <= 6 => format!("there is no task {}, they are 0 to {}", e.who, TASKS - 1),
+        4 => format!("there is no CPU {}, {}", e.who, cpus_there(tables.n)),
+        5 => wrong_state(e, tables),
+        6 => format!("{} is neither fifo (1) nor rr (2)", policy(e.a)),
+        7 if e.kind == 9 => format!("ordinary work is 0 or 1, not {}", e.b),
+        7 => format!("a priority is 1 to 99, not {}", e.b),
+        8 => wrong_mask(e.mask, tables.n),
+        9 => format!("no task on CPU {} can yield", e.who),
+        _ => "for a reason unknown to this tool".to_string(),
+    }
+}
+
+fn cpus_there(n: usize) -> String {
+    match n {
+        1 => "only CPU 0".to_string(),
+        _ => format!("they are 0 to {}", n - 1),
+    }
+}
+
+/// Which state the task is in, and which the event needs.
+fn wrong_state(e: Event, tables: &Tables) -> String {
+    let who = e.who;
+    let is = match tables.state.get(who as usize) {
+        Some(1) => "is asleep",
+        Some(2) => "is runnable",
+        _ => return format!("there is no task {who}, its place is free"),
+    };
+    match e.kind {
+        1 => format!("task {who} is there already and {is}"),
+        2 | 3 => format!("task {who} {is}, not asleep"),
+        _ => format!("task {who} {is}, not runnable"),
+    }
+}
+
+fn wrong_mask(mask: u64, n: usize) -> String {
+    let there = if n < 64 { (1 << n) - 1 } else { u64::MAX };
+    if mask == 0 {
+        return "the mask has no CPU".to_string();
+    }
+    format!(
+        "there is no CPU {}, {}",
+        cpu_list(mask & !there),
+        cpus_there(n)
+    )
+}
+
+#[cfg(test)]
+mod tests {
+    use super::*;
+    use crate::parse::{parse, Action};
+
+    #[test]
+    fn lists_of_cpus() {
+        for (mask, list) in [
+            (0, "none"),
+            (1, "0"),
+            (0b1011, "0-1,3"),
+            (u64::MAX, "0-63"),
+            (1 << 63, "63"),
+            (0b11 << 62 | 1, "0,62-63"),
+            (0b0111_0110, "1-2,4-6"),
+        ] {
+            assert_eq!(cpu_list(mask), list);
+        }
+    }
+
+    /// Each refusal, on a machine of two CPUs with task 0 runnable and task 1 asleep.
+    #[test]
+    fn every_refusal_says_why() {
+        for (line, expected) in [
+            (
+                "event 10 0 0 0 0",
+                "refused (3): there is no event of kind 10",
+            ),
+            (
+                "wake 600",
+                "refused (4): there is no task 600, they are 0 to 511",
+            ),
+            ("tick 2", "refused (4): there is no CPU 2, they are 0 to 1"),
+            (
+                "add 1 fifo 5 0",
+                "refused (5): task 1 is there already and is asleep",
+            ),
+            ("wake 0", "refused (5): task 0 is runnable, not asleep"),
+            ("remove 0", "refused (5): task 0 is runnable, not asleep"),
+            ("sleep 1", "refused (5): task 1 is asleep, not runnable"),
+            (
+                "wake 9",
+                "refused (5): there is no task 9, its place is free",
+            ),
+            (
+                "prio 9 5",
+                "refused (5): there is no task 9, its place is free",
+            ),
+            (
+                "add 2 batch 5 0",
+                "refused (6): policy 3 is neither fifo (1) nor rr (2)",
+            ),
+            (
+                "add 2 rr 100 0",
+                "refused (7): a priority is 1 to 99, not 100",
+            ),
+            ("prio 0 0", "refused (7): a priority is 1 to 99, not 0"),
+            (
+                "ordinary 0 2",
+                "refused (7): ordinary work is 0 or 1, not 2",
+            ),
+            ("affinity 0 0x0", "refused (8): the mask has no CPU"),
+            (
+                "affinity 0 1-2,4",
+                "refused (8): there is no CPU 2,4, they are 0 to 1",
+            ),
+            ("yield 1", "refused (9): no task on CPU 1 can yield"),
+        ] {
+            let text = format!("cpus 2\nadd 0 fifo 9 0\nadd 1 rr 9 0\nwake 0\n{line}");
+            assert_eq!(last_answer(&text), expected, "{line}");
+        }
+        assert_eq!(
+            last_answer("cpus 65\nwake 0"),
+            "refused (1): a machine has 1 to 64 CPUs, not 65"
+        );
+    }
+
+    fn last_answer(text: &str) -> String {
+        let mut tables = Tables::zeroed(0);
+        let mut last = String::new();
+        for line in parse(text.as_bytes()).unwrap() {
+            match line.action {
+                Action::Machine(n) => {
+                    tables = Tables::zeroed(n);
+                    tables.make_fresh();
+                }
+                Action::Event { event, .. } => {
+                    let outcome = tables.event(event);
+                    last = match outcome.answer {
+                        0 => accepted(outcome.moves as usize),
+                        answer => refused(answer, event, &tables),
+                    };
+                }
+            }
+        }
+        last
+    }
+}
