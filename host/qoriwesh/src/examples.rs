@@ -172,8 +172,7 @@ const EXAMPLES: &[Example] = &[
             Part("cpus 65", &[Answer(1)]),
             Part("cpus 64", &[Answer(0)]),
             Part("cpus 2\nadd 512 fifo 50 0", &[Answer(4)]),
-            Part("add 0 fifo 50 0\nwake 0", &[Answer(0)]),
-            Part("wake 0", &[Answer(5)]),
+            Part("add 0 fifo 50 0\nwake 0\nwake 0", &[Answer(5)]),
             Part("add 1 fifo 0 0", &[Answer(7)]),
             Part("add 1 fifo 100 0", &[Answer(7)]),
             Part("prio 0 0", &[Answer(7)]),
@@ -360,8 +359,8 @@ fn compare(show: &mut Show, facts: &[Fact], last: &Step) -> Result<bool, Failure
             differ.push(format!("DIFFERS: {found} instead of {expected}"));
         }
     }
-    let so = if differ.is_empty() { ": so it is" } else { "" };
-    show.line(&format!("document 01: {}{so}", all.join("; ")))?;
+    let so = if differ.is_empty() { "as " } else { "" };
+    show.line(&format!("{so}document 01 says: {}", all.join("; ")))?;
     for line in &differ {
         show.line(line)?;
     }
@@ -386,7 +385,7 @@ mod tests {
         for example in EXAMPLES {
             let (text, agrees) = told(example);
             assert!(agrees, "{text}");
-            assert!(text.contains("document 01"), "{text}");
+            assert!(text.contains("as document 01 says: "), "{text}");
         }
     }
 
@@ -413,7 +412,7 @@ mod tests {
             text.contains("DIFFERS: accepted instead of refused (5)"),
             "{text}"
         );
-        assert!(!text.contains("so it is"), "{text}");
+        assert!(!text.contains("as document 01"), "{text}");
     }
 
     fn differing(facts: &'static [Fact]) -> (String, bool) {

@@ -193,27 +193,22 @@ mod tests {
         assert_eq!(shown(&moves), [(1, 0, 1, Displaced::Ordinary)]);
     }
 
-    /// On CPU 1 tasks 1 and 2 have the same priority and one of them goes on to CPU 2. Which one ran there
-    /// before cannot be seen from the end.
+    /// On CPU 1 tasks 2 and 3 have the same priority, and task 3 goes on to CPU 2. Log and rows are the same
+    /// whichever of them ran there before.
     #[test]
     fn of_equals_the_one_that_ran_is_displaced() {
-        let text = |first: u16, second: u16| {
-            format!(
-                "cpus 3\nadd 0 fifo 30 0-1\nadd 1 fifo 20 1-2\nadd 2 fifo 20 1\nadd 3 fifo 40 0\n\
-                 add 4 fifo 20 2\nwake 0\nwake 4\nwake {first}\nwake {second}\nadd 5 fifo 10 2\n\
-                 wake 5\nprio 4 5\nwake 3"
-            )
+        let displaced = |wakes: &str| {
+            let moves = last_moves(&format!(
+                "cpus 3\nadd 0 fifo 50 2\nadd 1 fifo 40 0-1\nadd 2 fifo 20 1\nadd 3 fifo 20 1-2\n\
+                 wake 0\nwake 1\n{wakes}\naffinity 0 0"
+            ));
+            let displaced = moves[0].displaced;
+            let expected = [(1, 0, 1, displaced), (3, 1, 2, Displaced::Idle)];
+            assert_eq!(shown(&moves), expected);
+            displaced
         };
-        let ran_pinned = last_moves(&text(2, 1));
-        assert_eq!(shown(&ran_pinned)[0], (0, 0, 1, task(2, 20)));
-        let lines =
-            "cpus 3\nadd 0 fifo 30 0-1\nadd 1 fifo 20 1-2\nadd 2 fifo 20 1\nadd 3 fifo 40 0\n\
-                     add 4 fifo 10 2\nwake 0\nwake 4\n";
-        let free_ran = last_moves(&format!("{lines}wake 1\nwake 2\nwake 3"));
-        assert_eq!(
-            shown(&free_ran),
-            [(0, 0, 1, task(1, 20)), (1, 1, 2, task(4, 10))]
-        );
+        assert_eq!(displaced("wake 2\nwake 3"), task(2, 20));
+        assert_eq!(displaced("wake 3\nwake 2"), task(3, 20));
     }
 
     #[test]
@@ -284,12 +279,12 @@ mod tests {
         }
 
         fn event(&mut self, n: u64) -> Event {
-            let kind = [1, 2, 3, 3, 3, 3, 4, 4, 5, 6, 7, 8, 9][self.below(13) as usize];
+            let kind = [1, 1, 2, 3, 3, 3, 3, 3, 3, 4, 5, 5, 6, 6, 7, 8, 9][self.below(17) as usize];
             Event {
                 kind,
-                who: self.below(if kind > 6 { n } else { 14 }) as u32,
+                who: self.below(if kind > 6 { n } else { 3 * n }) as u32,
                 a: 1 + self.below(2) as u32,
-                b: self.below(if kind == 9 { 2 } else { 6 }) as u32,
+                b: self.below(if kind == 9 { 2 } else { 12 }) as u32,
                 mask: self.below(1 << n),
             }
         }
@@ -299,9 +294,9 @@ mod tests {
     #[test]
     fn replayed_rows_give_the_steps_of_the_rules() {
         let mut numbers = Numbers(1);
-        let mut steps = 0;
-        for run in 0..60 {
-            let n = 1 + run % 6;
+        let (mut steps, mut chains) = (0, 0);
+        for run in 0..240 {
+            let n = 1 + run % 8;
             let mut tables = Tables::fresh(n).unwrap();
             for _ in 0..400 {
                 let event = numbers.event(n as u64);
@@ -313,10 +308,14 @@ mod tests {
                 }
                 let moves = moves(&before, event, &tables, outcome.moves).unwrap();
                 steps += moves.len();
+                chains += usize::from(moves.len() > 1);
                 follow(&before, event, &tables, &moves);
             }
         }
-        assert!(steps > 500, "{steps} steps are too few to say much");
+        assert!(
+            steps > 1000 && chains > 200,
+            "{steps} and {chains} are too few to say much"
+        );
     }
 
     fn follow(before: &Tables, event: Event, after: &Tables, moves: &[Move]) {

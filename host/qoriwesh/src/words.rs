@@ -98,8 +98,8 @@ fn reason(answer: u8, e: Event, tables: &Tables) -> String {
         1 => no_machine(tables.n),
         2 => "the tables are not well-formed".to_string(),
         3 => format!("there is no event of kind {}", e.kind),
-        4 if e.kind <= 6 => format!("there is no task {}, they are 0 to {}", e.who, TASKS - 1),
-        4 => format!("there is no CPU {}, {}", e.who, cpus_there(tables.n)),
+        4 if e.kind <= 6 => format!("tasks are 0 to {}, not {}", TASKS - 1, e.who),
+        4 => format!("{}, not {}", cpus_there(tables.n), e.who),
         5 => wrong_state(e, tables),
         6 => format!("{} is neither fifo (1) nor rr (2)", policy(e.a)),
         7 if e.kind == 9 => format!("ordinary work is 0 or 1, not {}", e.b),
@@ -112,8 +112,8 @@ fn reason(answer: u8, e: Event, tables: &Tables) -> String {
 
 fn cpus_there(n: usize) -> String {
     match n {
-        1 => "only CPU 0".to_string(),
-        _ => format!("they are 0 to {}", n - 1),
+        1 => "the only CPU is 0".to_string(),
+        _ => format!("CPUs are 0 to {}", n - 1),
     }
 }
 
@@ -137,11 +137,7 @@ fn wrong_mask(mask: u64, n: usize) -> String {
     if mask == 0 {
         return "the mask has no CPU".to_string();
     }
-    format!(
-        "there is no CPU {}, {}",
-        cpu_list(mask & !there),
-        cpus_there(n)
-    )
+    format!("{}, not {}", cpus_there(n), cpu_list(mask & !there))
 }
 
 #[cfg(test)]
@@ -172,11 +168,8 @@ mod tests {
                 "event 10 0 0 0 0",
                 "refused (3): there is no event of kind 10",
             ),
-            (
-                "wake 600",
-                "refused (4): there is no task 600, they are 0 to 511",
-            ),
-            ("tick 2", "refused (4): there is no CPU 2, they are 0 to 1"),
+            ("wake 600", "refused (4): tasks are 0 to 511, not 600"),
+            ("tick 2", "refused (4): CPUs are 0 to 1, not 2"),
             (
                 "add 1 fifo 5 0",
                 "refused (5): task 1 is there already and is asleep",
@@ -206,10 +199,7 @@ mod tests {
                 "refused (7): ordinary work is 0 or 1, not 2",
             ),
             ("affinity 0 0x0", "refused (8): the mask has no CPU"),
-            (
-                "affinity 0 1-2,4",
-                "refused (8): there is no CPU 2,4, they are 0 to 1",
-            ),
+            ("affinity 0 1-2,4", "refused (8): CPUs are 0 to 1, not 2,4"),
             ("yield 1", "refused (9): no task on CPU 1 can yield"),
         ] {
             let text = format!("cpus 2\nadd 0 fifo 9 0\nadd 1 rr 9 0\nwake 0\n{line}");
