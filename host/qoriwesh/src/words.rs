@@ -105,7 +105,7 @@ fn reason(answer: u8, e: Event, tables: &Tables) -> String {
         7 if e.kind == 9 => format!("ordinary work is 0 or 1, not {}", e.b),
         7 => format!("a priority is 1 to 99, not {}", e.b),
         8 => wrong_mask(e.mask, tables.n),
-        9 => format!("no task on CPU {} can yield", e.who),
+        9 => format!("CPU {} has no task that could yield", e.who),
         _ => "for a reason unknown to this tool".to_string(),
     }
 }
@@ -200,7 +200,7 @@ mod tests {
             ),
             ("affinity 0 0x0", "refused (8): the mask has no CPU"),
             ("affinity 0 1-2,4", "refused (8): CPUs are 0 to 1, not 2,4"),
-            ("yield 1", "refused (9): no task on CPU 1 can yield"),
+            ("yield 1", "refused (9): CPU 1 has no task that could yield"),
         ] {
             let text = format!("cpus 2\nadd 0 fifo 9 0\nadd 1 rr 9 0\nwake 0\n{line}");
             assert_eq!(last_answer(&text), expected, "{line}");
