@@ -34,7 +34,8 @@ fn read_bytes(file: Option<&OsStr>) -> io::Result<Vec<u8>> {
         None => {
             let stdin = io::stdin();
             if stdin.is_terminal() {
-                eprintln!("qoriwesh: reading events from the terminal; ^D ends them");
+                let hint = "qoriwesh: reading events from the terminal; ^D ends them";
+                let _ = writeln!(io::stderr(), "{hint}");
             }
             stdin.lock().take(LONGEST + 1).read_to_end(&mut text)?
         }

@@ -53,6 +53,7 @@ pub fn parse_after(text: &[u8], mut machine: bool) -> Result<Vec<Line>, Vec<Prob
                 message,
             }),
         }
+        // Also after a wrong `cpus` line, so that the lines below are not told for its sake.
         machine = machine || bytes.trim_ascii_start().starts_with(b"cpus");
     }
     if lines.is_empty() && problems.is_empty() {

@@ -58,8 +58,8 @@ pub fn event(e: Event) -> String {
         2 => format!("remove task {who}"),
         3 => format!("wake task {who}"),
         4 => format!("sleep task {who}"),
-        5 => format!("priority {b} for task {who}"),
-        6 => format!("{} for task {who}", cpus(mask)),
+        5 => format!("give task {who} priority {b}"),
+        6 => format!("allow task {who} {}", cpus(mask)),
         7 => format!("tick on CPU {who}"),
         8 => format!("yield on CPU {who}"),
         9 => match b {
