@@ -351,7 +351,8 @@ fn parts(show: &mut Show, example: &Example) -> Result<bool, Failure> {
 
 /// Says what document 01 says, and whether it is so.
 fn compare(show: &mut Show, facts: &[Fact], last: &Step) -> Result<bool, Failure> {
-    let all: Vec<String> = facts.iter().map(Fact::expected).collect();
+    let expected = |fact: &Fact| render::tied(&fact.expected());
+    let all: Vec<String> = facts.iter().map(expected).collect();
     let mut differ = Vec::new();
     for fact in facts {
         let (expected, found) = (fact.expected(), fact.found(&show.tables, last));

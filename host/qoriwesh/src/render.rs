@@ -6,6 +6,13 @@ use binding::Tables;
 
 /// Columns of a line, at most.
 pub const WIDTH: usize = 80;
+/// A space at which no line is broken. `wrap` turns it into a space.
+const TIE: &str = "\u{1f}";
+
+/// The text, to be broken nowhere.
+pub fn tied(text: &str) -> String {
+    text.replace(' ', TIE)
+}
 
 /// CPUs side by side that show the same, and what they show.
 struct Cpus {
@@ -46,7 +53,10 @@ fn cpus(tables: &Tables, cpu: usize) -> Cpus {
         None if busy => ("ordinary work".to_string(), String::new()),
         None => ("idle".to_string(), String::new()),
         Some((&first, rest)) => {
-            let mut waits: Vec<String> = rest.iter().map(|&task| numbered(tables, task)).collect();
+            let mut waits: Vec<String> = rest
+                .iter()
+                .map(|&task| tied(&numbered(tables, task)))
+                .collect();
             waits.extend(busy.then(|| "ordinary work".to_string()));
             let waits = match waits.is_empty() {
                 true => String::new(),
@@ -147,7 +157,7 @@ pub fn wrap(text: &str, first: usize, rest: usize) -> Vec<String> {
             } else if !fresh {
                 line.push(' ');
             }
-            line.push_str(piece);
+            line.push_str(&piece.replace(TIE, " "));
             fresh = false;
         }
     }
@@ -200,6 +210,11 @@ mod tests {
         }
         assert_eq!(wrap("short", 4, 6), ["    short"]);
         assert_eq!(wrap("a  b", 0, 2), ["a  b"]);
+        let pairs = vec![tied("12 (34)"); 20].join(", ");
+        for line in wrap(&pairs, 6, 8) {
+            assert!(line.trim_end_matches(',').ends_with("12 (34)"), "{line}");
+            assert!(line.trim_start().starts_with("12 (34)"), "{line}");
+        }
     }
 
     #[test]
