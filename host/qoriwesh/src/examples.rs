@@ -279,7 +279,7 @@ impl Chosen {
     pub fn show(&self, out: &mut dyn Write) -> Result<bool, Failure> {
         let mut differ = Vec::new();
         for example in &self.0 {
-            if !show(out, example)? {
+            if !show(out, EXAMPLES, example)? {
                 differ.push(example.name);
             }
             writeln!(out)?;
@@ -301,28 +301,28 @@ impl Chosen {
     }
 }
 
-/// Shows one example from its title on. Whether it agrees, with what it goes on from.
-fn show(out: &mut dyn Write, example: &Example) -> Result<bool, Failure> {
+/// Shows one of all examples from its title on. Whether it agrees, with what it goes on from.
+fn show(out: &mut dyn Write, all: &[Example], example: &Example) -> Result<bool, Failure> {
     writeln!(out, "{}: {}", example.name, example.title)?;
     let Some(base) = example.after else {
         return parts(&mut Show::new(out), example);
     };
-    let (tables, agrees) = quietly(base)?;
+    let (tables, agrees) = quietly(all, base)?;
     let differs = if agrees { "" } else { ", which DIFFERS" };
     writeln!(out, "      after {base}{differs}:")?;
     Ok(parts(&mut Show::resume(out, tables)?, example)? && agrees)
 }
 
 /// The machine that another example ends with, and whether that one agrees.
-fn quietly(name: &str) -> Result<(Tables, bool), Failure> {
-    let example = EXAMPLES.iter().find(|example| example.name == name);
+fn quietly(all: &[Example], name: &str) -> Result<(Tables, bool), Failure> {
+    let example = all.iter().find(|example| example.name == name);
     let example = example.ok_or_else(|| Failure::Defect(format!("no example {name}")))?;
     let mut sink = io::sink();
     let mut agrees = true;
     let mut show = match example.after {
         None => Show::new(&mut sink),
         Some(base) => {
-            let (tables, base_agrees) = quietly(base)?;
+            let (tables, base_agrees) = quietly(all, base)?;
             agrees = base_agrees;
             Show::resume(&mut sink, tables)?
         }
@@ -374,7 +374,7 @@ mod tests {
 
     fn told(example: &Example) -> (String, bool) {
         let mut out = Vec::new();
-        let agrees = show(&mut out, example).unwrap();
+        let agrees = show(&mut out, EXAMPLES, example).unwrap();
         (String::from_utf8(out).unwrap(), agrees)
     }
 
@@ -424,6 +424,28 @@ mod tests {
             after: None,
             parts: Box::leak(Box::new([part])),
         })
+    }
+
+    /// C goes on from B, which is right, and B from A, which is not.
+    #[test]
+    fn what_goes_on_from_one_that_differs_differs() {
+        let example = |name, after, parts| Example {
+            name,
+            title: "",
+            after,
+            parts,
+        };
+        let all = [
+            example("A", None, &[Part("cpus 1\nadd 0 fifo 5 0", &[Answer(5)])]),
+            example("B", Some("A"), &[Part("wake 0", &[Answer(0)])]),
+            example("C", Some("B"), &[Part("sleep 0", &[Answer(0)])]),
+        ];
+        for last in &all {
+            let mut out = Vec::new();
+            assert!(!show(&mut out, &all, last).unwrap());
+            let text = String::from_utf8(out).unwrap();
+            assert!(text.contains("DIFFERS"), "{text}");
+        }
     }
 
     #[test]

@@ -239,6 +239,10 @@ mod tests {
                 "{place} {value}"
             );
         }
+        after.log[0] = 0;
+        let message = moves(&before, wake, &after, count).unwrap_err();
+        assert_eq!(message, "the move (0,0,1) does not fit the rows");
+        after.log[0] = 1;
         after.rows[0] = 1;
         assert!(moves(&before, wake, &after, count).is_err());
     }

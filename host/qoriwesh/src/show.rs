@@ -3,7 +3,7 @@
 use crate::parse::Action;
 use crate::reasons::{self, Move};
 use crate::{render, words};
-use binding::{Event, Tables};
+use binding::{Event, Outcome, Tables};
 use std::io::{self, Write};
 
 /// Where an event's answer begins, if it stands on the event's line.
@@ -200,24 +200,27 @@ impl<'a> Show<'a> {
     }
 }
 
-/// One event through the library, with the reasons of its moves. That a refusal changes nothing is looked at.
+/// One event through the library.
 fn handle(tables: &mut Tables, event: Event) -> Result<Step, Failure> {
     let before = tables.clone();
     let outcome = tables.event(event);
-    if outcome.answer != 0 && (*tables != before || outcome.moves != 0) {
-        return Err(Failure::Defect(format!(
-            "refusal {} of '{}' changed something",
-            outcome.answer,
-            words::event(event)
-        )));
+    judged(&before, event, tables, outcome).map_err(Failure::Defect)
+}
+
+/// The outcome with the reasons of its moves. That a refusal changes nothing is looked at.
+fn judged(before: &Tables, e: Event, after: &Tables, outcome: Outcome) -> Result<Step, String> {
+    let Outcome { answer, moves } = outcome;
+    if answer == 0 {
+        let moves = reasons::moves(before, e, after, moves)?;
+        return Ok(Step { answer, moves });
     }
-    let moves = match outcome.answer {
-        0 => reasons::moves(&before, event, tables, outcome.moves).map_err(Failure::Defect)?,
-        _ => Vec::new(),
-    };
+    if before != after || moves != 0 {
+        let event = words::event(e);
+        return Err(format!("refusal {answer} of '{event}' changed something"));
+    }
     Ok(Step {
-        answer: outcome.answer,
-        moves,
+        answer,
+        moves: Vec::new(),
     })
 }
 
@@ -279,5 +282,26 @@ mod tests {
     fn rows_are_shown_when_they_changed() {
         let (text, _) = told("cpus 1\nadd 0 fifo 9 0\nwake 0\ntick 0\nprio 0 9");
         assert_eq!(text.matches("CPU 0  level").count(), 1, "{text}");
+    }
+
+    #[test]
+    fn a_refusal_that_changes_something_is_a_defect() {
+        let tables = Tables::fresh(2).unwrap();
+        let mut other = tables.clone();
+        other.slice[511] = 1;
+        let wake = Event {
+            kind: 3,
+            who: 0,
+            a: 0,
+            b: 0,
+            mask: 0,
+        };
+        let refused = |moves| Outcome { answer: 5, moves };
+        assert!(judged(&tables, wake, &tables, refused(0)).is_ok());
+        assert!(judged(&tables, wake, &tables, refused(1)).is_err());
+        assert_eq!(
+            judged(&tables, wake, &other, refused(0)),
+            Err("refusal 5 of 'wake task 0' changed something".to_string())
+        );
     }
 }
