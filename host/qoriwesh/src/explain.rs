@@ -2,6 +2,7 @@
 
 use crate::parse::{parse, Line, Problem};
 use crate::show::{Failure, Show};
+use crate::words;
 use std::ffi::OsStr;
 use std::fs::File;
 use std::io::{self, IsTerminal, Read, Write};
@@ -69,14 +70,7 @@ pub fn show(out: &mut dyn Write, lines: &[Line]) -> Result<bool, Failure> {
         "{} accepted, {} refused, {} in all",
         tally.accepted,
         tally.refused,
-        moves(tally.moves)
+        words::moves(tally.moves)
     )?;
     Ok(tally.refused == 0)
-}
-
-fn moves(count: u64) -> String {
-    match count {
-        1 => "1 move".to_string(),
-        _ => format!("{count} moves"),
-    }
 }

@@ -1,8 +1,10 @@
 //! The command line: which command, and how it ends.
 
+mod cpulist;
 mod examples;
 mod explain;
 mod help;
+mod marked;
 mod parse;
 mod reasons;
 mod render;

@@ -3,6 +3,7 @@
 //! A number that the library can be asked with is passed on, in range or not: refusing is the library's. A
 //! line is wrong only if it gives no event at all.
 
+use crate::cpulist;
 use binding::Event;
 
 /// The most ticks that one line may ask for.
@@ -130,7 +131,7 @@ fn read_event(command: &str, rest: &[&str]) -> Result<Event, String> {
         }
         "affinity" => {
             let [task, cpus] = exactly(rest, "affinity TASK CPUS")?;
-            Ok(event(6, task_number(task)?, 0, 0, cpu_mask(cpus)?))
+            Ok(event(6, task_number(task)?, 0, 0, cpulist::read(cpus)?))
         }
         "yield" => {
             let [cpu] = exactly(rest, "yield CPU")?;
@@ -148,14 +149,14 @@ fn read_event(command: &str, rest: &[&str]) -> Result<Event, String> {
 fn read_add(rest: &[&str]) -> Result<Event, String> {
     let [task, class, prio, cpus] = exactly(rest, "add TASK POLICY PRIORITY CPUS")?;
     let (task, class, prio) = (task_number(task)?, policy(class)?, priority(prio)?);
-    Ok(event(1, task, class, prio, cpu_mask(cpus)?))
+    Ok(event(1, task, class, prio, cpulist::read(cpus)?))
 }
 
 /// The five numbers as the library takes them, so that any event can be tried.
 fn read_raw(rest: &[&str]) -> Result<Event, String> {
     let [kind, who, a, b, mask] = exactly(rest, "event KIND WHO A B MASK")?;
-    let mask = match hex_digits(mask) {
-        Some(digits) => hex(digits, mask)?,
+    let mask = match cpulist::read_hex(mask) {
+        Some(mask) => mask?,
         None => number(mask, "a mask")?,
     };
     Ok(event(
@@ -204,7 +205,7 @@ fn priority(word: &str) -> Result<u32, String> {
 }
 
 /// A decimal number that fits its type: the library can be asked with no other.
-fn number<T: std::str::FromStr>(word: &str, what: &str) -> Result<T, String> {
+pub fn number<T: std::str::FromStr>(word: &str, what: &str) -> Result<T, String> {
     if word.is_empty() || !word.bytes().all(|byte| byte.is_ascii_digit()) {
         return Err(format!("expected {what}, found {}", quoted(word)));
     }
@@ -236,68 +237,8 @@ fn on_or_off(word: &str) -> Result<u32, String> {
     }
 }
 
-/// A list of CPUs (`0-1,3`, `0-7:2`) or a mask (`0x0b`).
-fn cpu_mask(word: &str) -> Result<u64, String> {
-    if let Some(digits) = hex_digits(word) {
-        return hex(digits, word);
-    }
-    let mut mask = 0;
-    for part in word.split(',') {
-        mask |= cpu_range(part, word)?;
-    }
-    Ok(mask)
-}
-
-/// One part of a list: `3`, `0-7`, or every second of them, `0-7:2`.
-fn cpu_range(part: &str, word: &str) -> Result<u64, String> {
-    let wrong = || {
-        format!(
-            "expected CPUs as a list (0-1,3) or a mask (0x0b), found {}",
-            quoted(word)
-        )
-    };
-    let (range, step) = match part.split_once(':') {
-        None => (part, 1),
-        Some((range, step)) if range.contains('-') => {
-            (range, number::<usize>(step, "").map_err(|_| wrong())?)
-        }
-        Some(_) => return Err(wrong()),
-    };
-    let (first, last) = range.split_once('-').unwrap_or((range, range));
-    let first: u32 = number(first, "").map_err(|_| wrong())?;
-    let last: u32 = number(last, "").map_err(|_| wrong())?;
-    if last > 63 {
-        return Err(format!(
-            "expected CPUs 0 to 63, which a mask of 64 bits can name, found {}",
-            quoted(word)
-        ));
-    }
-    if first > last || step == 0 {
-        return Err(wrong());
-    }
-    Ok((first..=last)
-        .step_by(step)
-        .fold(0, |mask, cpu| mask | 1 << cpu))
-}
-
-fn hex_digits(word: &str) -> Option<&str> {
-    word.strip_prefix("0x").or_else(|| word.strip_prefix("0X"))
-}
-
-fn hex(digits: &str, word: &str) -> Result<u64, String> {
-    if digits.bytes().all(|byte| byte.is_ascii_hexdigit()) {
-        if let Ok(mask) = u64::from_str_radix(digits, 16) {
-            return Ok(mask);
-        }
-    }
-    Err(format!(
-        "expected a mask of 64 bits (0x0b), found {}",
-        quoted(word)
-    ))
-}
-
 /// What stands in the text, short and without control characters.
-fn quoted(word: &str) -> String {
+pub fn quoted(word: &str) -> String {
     let shown: String = word.chars().take(40).flat_map(char::escape_debug).collect();
     let rest = if word.chars().count() > 40 { "..." } else { "" };
     format!("'{shown}{rest}'")
@@ -360,52 +301,6 @@ mod tests {
         );
         assert!(one("tick 2 10000").is_ok());
         assert!(one("tick 2 10001").is_err());
-    }
-
-    #[test]
-    fn lists_and_masks() {
-        for (word, mask) in [
-            ("0", 1),
-            ("0-1,3", 0b1011),
-            ("3,0-1", 0b1011),
-            ("0-7:2", 0b0101_0101),
-            ("1-6:3", 0b0001_0010),
-            ("63", 1 << 63),
-            ("0-63", u64::MAX),
-            ("0x0", 0),
-            ("0XB", 0b1011),
-            ("0xffffffffffffffff", u64::MAX),
-        ] {
-            assert_eq!(cpu_mask(word), Ok(mask), "{word}");
-        }
-    }
-
-    #[test]
-    fn lists_and_masks_that_are_none() {
-        for word in [
-            "",
-            ",",
-            "1,",
-            "1-",
-            "-1",
-            "2-1",
-            "a",
-            "0-3:0",
-            "0-3:",
-            "3:2",
-            "1--2",
-            "+1",
-            "0x",
-            "0xg",
-            "0x+1",
-            "64",
-            "0-64",
-            "99999999999",
-            "0x10000000000000000",
-            "1;2",
-        ] {
-            assert!(cpu_mask(word).is_err(), "{word:?} was read");
-        }
     }
 
     #[test]

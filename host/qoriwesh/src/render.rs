@@ -1,7 +1,6 @@
 //! Rows, levels and moves as aligned lines of at most 80 columns.
 
 use crate::reasons::{Displaced, Move};
-use crate::words;
 use binding::Tables;
 
 /// Columns of a line, at most.
@@ -134,14 +133,6 @@ pub fn brackets<'a>(rows: impl Iterator<Item = &'a [u16]>) -> String {
     rows.map(row).collect::<Vec<_>>().join(" ")
 }
 
-/// `a machine of 3 CPUs`.
-pub fn machine(n: usize) -> String {
-    match n {
-        1 => "a machine of 1 CPU".to_string(),
-        _ => format!("a machine of {n} CPUs"),
-    }
-}
-
 /// The text in lines of at most 80 columns: the first indented by `first`, the others by `rest`. Lines
 /// break at spaces, and inside a list of CPUs that fits no line, after a comma.
 pub fn wrap(text: &str, first: usize, rest: usize) -> Vec<String> {
@@ -188,14 +179,6 @@ fn widest(texts: &[String]) -> usize {
 pub fn spaced<T: ToString>(numbers: impl Iterator<Item = T>) -> String {
     let texts: Vec<String> = numbers.map(|number| number.to_string()).collect();
     texts.join(" ")
-}
-
-/// The event with how often it came, if more than once.
-pub fn event(e: binding::Event, times: u32) -> String {
-    match times {
-        1 => words::event(e),
-        _ => format!("{}, {times} times", words::event(e)),
-    }
 }
 
 #[cfg(test)]

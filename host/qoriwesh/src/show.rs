@@ -84,7 +84,7 @@ impl<'a> Show<'a> {
     fn machine(&mut self, number: usize, n: usize) -> Result<Step, Failure> {
         let mut fresh = Tables::zeroed(n);
         let answer = fresh.make_fresh();
-        let title = render::machine(n);
+        let title = words::machine(n);
         if answer == 0 {
             self.shown = render::state(&fresh);
             self.titled(number, &title, "made, all idle")?;
@@ -142,13 +142,13 @@ impl<'a> Show<'a> {
         if times == 0 {
             return Ok(());
         }
-        self.titled(n, &render::event(e, times), &words::accepted(0))?;
+        self.titled(n, &words::events(e, times), &words::accepted(0))?;
         self.changed(after)
     }
 
     /// Shows one event that was refused or made moves.
     fn step(&mut self, number: usize, event: Event, step: &Step) -> Result<(), Failure> {
-        let title = render::event(event, 1);
+        let title = words::event(event);
         if step.answer != 0 {
             let why = words::refused(step.answer, event, &self.tables);
             return self.titled(number, &title, &format!("{why}; nothing was changed"));

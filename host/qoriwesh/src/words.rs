@@ -1,33 +1,14 @@
 //! Events, answers and CPUs in words.
 
+use crate::cpulist;
 use binding::{Event, Tables, TASKS};
-
-/// CPUs as a list: `0-1,3`. No CPU is `none`.
-pub fn cpu_list(mask: u64) -> String {
-    let mut parts: Vec<String> = Vec::new();
-    let mut cpu = 0;
-    while cpu < 64 {
-        let run = (mask >> cpu).trailing_ones();
-        match run {
-            0 => cpu += 1,
-            1 => parts.push(cpu.to_string()),
-            _ => parts.push(format!("{cpu}-{}", cpu + run - 1)),
-        }
-        cpu += run;
-    }
-    if parts.is_empty() {
-        "none".to_string()
-    } else {
-        parts.join(",")
-    }
-}
 
 /// `CPU 3`, `CPUs 0-1` or `no CPU`.
 fn cpus(mask: u64) -> String {
     match mask.count_ones() {
         0 => "no CPU".to_string(),
-        1 => format!("CPU {}", cpu_list(mask)),
-        _ => format!("CPUs {}", cpu_list(mask)),
+        1 => format!("CPU {}", cpulist::write(mask)),
+        _ => format!("CPUs {}", cpulist::write(mask)),
     }
 }
 
@@ -71,12 +52,33 @@ pub fn event(e: Event) -> String {
     }
 }
 
-/// `accepted, 2 moves`.
-pub fn accepted(moves: usize) -> String {
-    match moves {
-        1 => "accepted, 1 move".to_string(),
-        _ => format!("accepted, {moves} moves"),
+/// An event with how often it came, if more than once.
+pub fn events(e: Event, times: u32) -> String {
+    match times {
+        1 => event(e),
+        _ => format!("{}, {times} times", event(e)),
     }
+}
+
+/// `a machine of 3 CPUs`.
+pub fn machine(n: usize) -> String {
+    match n {
+        1 => "a machine of 1 CPU".to_string(),
+        _ => format!("a machine of {n} CPUs"),
+    }
+}
+
+/// `1 move`, `2 moves`.
+pub fn moves(count: u64) -> String {
+    match count {
+        1 => "1 move".to_string(),
+        _ => format!("{count} moves"),
+    }
+}
+
+/// `accepted, 2 moves`.
+pub fn accepted(count: usize) -> String {
+    format!("accepted, {}", moves(count as u64))
 }
 
 /// `refused (5): task 3 is runnable, not asleep`. The tables are those that the event was refused on.
@@ -137,28 +139,13 @@ fn wrong_mask(mask: u64, n: usize) -> String {
     if mask == 0 {
         return "the mask has no CPU".to_string();
     }
-    format!("{}, not {}", cpus_there(n), cpu_list(mask & !there))
+    format!("{}, not {}", cpus_there(n), cpulist::write(mask & !there))
 }
 
 #[cfg(test)]
 mod tests {
     use super::*;
     use crate::parse::{parse, Action};
-
-    #[test]
-    fn lists_of_cpus() {
-        for (mask, list) in [
-            (0, "none"),
-            (1, "0"),
-            (0b1011, "0-1,3"),
-            (u64::MAX, "0-63"),
-            (1 << 63, "63"),
-            (0b11 << 62 | 1, "0,62-63"),
-            (0b0111_0110, "1-2,4-6"),
-        ] {
-            assert_eq!(cpu_list(mask), list);
-        }
-    }
 
     /// Each refusal, on a machine of two CPUs with task 0 runnable and task 1 asleep.
     #[test]
