@@ -173,7 +173,7 @@ fn other_number(rng: &mut Rng, t: &Tables) -> Damage {
 pub fn wrong_number(rng: &mut Rng, t: &Tables) -> Damage {
     let cpu = rng.below(t.n);
     let count = (t.counts[cpu] as usize).clamp(1, TASKS);
-    match rng.below(16) {
+    match rng.below(18) {
         0 => Damage::Relevel {
             cpu: rng.below(CPUS),
             level: rng.pick(&[0, 1, 2, 3, 52, 63, 64, 101, 102, 254, 255]),
@@ -201,7 +201,7 @@ pub fn wrong_number(rng: &mut Rng, t: &Tables) -> Damage {
             prio: rng.within(0, 100) as u8,
         },
         8 => word_bit(rng),
-        9 | 10 => task_column(rng, t),
+        9..=12 => task_column(rng, t),
         _ => other_number(rng, t),
     }
 }
@@ -215,7 +215,7 @@ fn word_bit(rng: &mut Rng) -> Damage {
     }
 }
 
-/// A column of a place that has a task, or of one beside it.
+/// A column of a place that has a task, or of the one after it.
 fn task_column(rng: &mut Rng, t: &Tables) -> Damage {
     let table = rng.below(6);
     let used: Vec<usize> = (0..TASKS).filter(|&i| t.state[i] != 0).collect();
@@ -223,14 +223,29 @@ fn task_column(rng: &mut Rng, t: &Tables) -> Damage {
         true => rng.below(TASKS),
         false => (rng.pick(&used) + usize::from(rng.percent(20))) % TASKS,
     };
-    let value = match rng.percent(30) {
-        true => rng.within(0, 3) as u64,
+    let value = match rng.percent(70) {
+        true => at_limit(rng, t, table, index),
         false => other_value(rng, get(t, table, index)),
     };
     Damage::Set {
         table,
         index,
         value,
+    }
+}
+
+/// The last good number of a column, or the first bad one.
+fn at_limit(rng: &mut Rng, t: &Tables, column: usize, task: usize) -> u64 {
+    let n = t.n as u64;
+    let past = 1u64.checked_shl(t.n as u32).unwrap_or(0);
+    let own = 1u64 << (t.cpu[task] % 64);
+    let old = t.mask[task];
+    match column {
+        0 | 1 => rng.pick(&[0, 1, 2, 3]),
+        2 => rng.pick(&[0, 1, 99, 100]),
+        3 => rng.pick(&[0, n - 1, n, 255]),
+        4 => rng.pick(&[0, 1, 100, 101]),
+        _ => rng.pick(&[0, old | past, old & !own, old | own, own]),
     }
 }
 

@@ -135,14 +135,15 @@ pub fn every_length(mutant: Mutant, counters: &mut Counters) -> Option<Failure> 
     })
 }
 
-/// Every length, then random cases until so many calls have been compared.
+/// Random cases until so many calls have been compared.
 pub fn run(seed: u64, calls: u64, mutant: Mutant, counters: &mut Counters) -> Option<Failure> {
     let until = counters.calls + calls;
-    let mut failure = every_length(mutant, counters);
     let mut number = 0;
-    while failure.is_none() && counters.calls < until {
-        failure = run_case(seed, number, mutant, counters);
+    while counters.calls < until {
+        if let Some(failure) = run_case(seed, number, mutant, counters) {
+            return Some(failure);
+        }
         number += 1;
     }
-    failure
+    None
 }

@@ -10,8 +10,8 @@ pub fn call(rng: &mut Rng, t: &Tables, style: &Style, pool: &[u16]) -> Call {
     match rng.below(1000) {
         0 => Call::MakeFresh,
         1..=20 => Call::Check,
-        21..=60 => find(rng, style.n),
-        61..=160 => Call::Event(hostile(rng, t, style, pool)),
+        21..=70 => find(rng, style.n),
+        71..=220 => Call::Event(hostile(rng, t, style, pool)),
         _ => Call::Event(plausible(rng, t, style, pool)),
     }
 }
@@ -49,10 +49,14 @@ pub fn plausible(rng: &mut Rng, t: &Tables, style: &Style, pool: &[u16]) -> Even
     e
 }
 
-/// An event with one or more numbers that should not be.
+/// An event that should be refused: aimed at one refusal number, or with any numbers gone wrong.
 pub fn hostile(rng: &mut Rng, t: &Tables, style: &Style, pool: &[u16]) -> Event {
     let mut e = plausible(rng, t, style, pool);
-    for _ in 0..rng.pick(&[1, 1, 1, 2, 4]) {
+    if rng.percent(60) {
+        let number = rng.within(3, 9);
+        return aimed(rng, t, style, pool, number);
+    }
+    for _ in 0..rng.pick(&[1, 1, 2, 4]) {
         match rng.below(5) {
             0 => e.kind = edge(rng, e.kind, style.n),
             1 => e.who = edge(rng, e.who, style.n),
@@ -61,8 +65,38 @@ pub fn hostile(rng: &mut Rng, t: &Tables, style: &Style, pool: &[u16]) -> Event 
             _ => e.mask = edge_mask(rng, style.n),
         }
     }
-    if rng.percent(40) {
-        e.kind = rng.pick(&[1, 1, 1, 2, 3, 4, 5, 6, 8, 9]);
+    e
+}
+
+/// An event in which mostly nothing is wrong but what the refusal number speaks of.
+fn aimed(rng: &mut Rng, t: &Tables, style: &Style, pool: &[u16], number: usize) -> Event {
+    let free = pool
+        .iter()
+        .find(|&&id| t.state.get(id as usize) == Some(&0));
+    let mut e = Event {
+        kind: rng.pick(&[1, 1, 5, 6, 9]),
+        who: u32::from(rng.pick(pool)),
+        a: u32::from(style.policy(rng)),
+        b: u32::from(style.prio(rng)),
+        mask: style.mask(rng),
+    };
+    match number {
+        3 => e.kind = edge(rng, e.kind, style.n),
+        4 => e.who = edge(rng, e.who, style.n),
+        5 => e.kind = rng.within(1, 6) as u32,
+        6 => e.a = edge(rng, e.a, style.n),
+        7 => e.b = edge(rng, e.b, style.n),
+        8 => e.mask = edge_mask(rng, style.n),
+        _ => e.kind = 8,
+    }
+    match (number, free) {
+        (6, _) => e.kind = 1,
+        (8, _) if e.kind == 9 => e.kind = 6,
+        (9, _) => e.who = rng.below(style.n) as u32,
+        _ => (),
+    }
+    if let (6..=8, Some(&id), 1) = (number, free, e.kind) {
+        e.who = u32::from(id);
     }
     e
 }

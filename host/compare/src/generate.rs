@@ -45,6 +45,18 @@ impl Style {
             99 => (1..=99).collect(),
             few => (0..few).map(|_| rng.within(1, 99) as u8).collect(),
         };
+        let lively = rng.percent(30);
+        if lively {
+            return Style {
+                n: rng.within(n, 64),
+                prios: (1..=99).collect(),
+                masks: rng.pick(&[Masks::Two, Masks::Neighbours]),
+                rr: 50,
+                short_slices: true,
+                piled: rng.percent(50),
+                runnable: 90,
+            };
+        }
         Style {
             n,
             prios,

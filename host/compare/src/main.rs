@@ -117,7 +117,8 @@ fn run_damaged(options: &Options, counters: &mut Counters) -> bool {
         .unwrap_or(if options.quick { 40_000 } else { 300_000 });
     report(match options.case {
         Some(case) => damaged::run_case(options.seed, case, options.mutant, counters),
-        None => damaged::run(options.seed, calls, options.mutant, counters),
+        None => damaged::every_length(options.mutant, counters)
+            .or_else(|| damaged::run(options.seed, calls, options.mutant, counters)),
     })
 }
 

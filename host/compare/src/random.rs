@@ -7,6 +7,16 @@ use crate::generate::{machine, Style};
 use crate::rng::Rng;
 use reference::Mutant;
 
+/// How many calls: mostly few, since only the first event meets an unsettled machine; now and then very many.
+fn length(rng: &mut Rng) -> usize {
+    match rng.below(200) {
+        0 => 2000,
+        1..=15 => 200,
+        16..=40 => 60,
+        _ => rng.pick(&[1, 1, 2, 2, 8]),
+    }
+}
+
 /// One case: the failure, if any.
 pub fn run_case(
     seed: u64,
@@ -17,7 +27,7 @@ pub fn run_case(
     let mut rng = Rng::for_case(seed, number);
     let style = Style::random(&mut rng);
     let (plan, pool) = machine(&mut rng, &style);
-    let length = rng.pick(&[2, 2, 2, 10, 10, 60, 400]);
+    let length = length(&mut rng);
     let mut case = Case {
         plan,
         damage: Vec::new(),

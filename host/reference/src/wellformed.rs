@@ -26,7 +26,7 @@ fn columns_zero(t: &Tables, i: usize) -> bool {
         u64::from(t.slice[i]),
         t.mask[i],
     ];
-    columns == [0; 5]
+    columns.iter().all(|&number| number == 0)
 }
 
 /// "Otherwise policy 1 or 2, priority 1 to 99, CPU below N, slice 1 to 100, mask not 0 and without bits at N or
