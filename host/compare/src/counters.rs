@@ -75,7 +75,7 @@ impl Counters {
         }
     }
 
-    /// Each refusal and each kind's acceptance was reached so often; else what was not, in words.
+    /// Each refusal and each kind's acceptance was reached so often, and 63 moves once; else what was not, in words.
     pub fn reached(&self, least: u64) -> Result<(), String> {
         for (entry, number) in REFUSALS {
             let times = self.answers[entry][number];
@@ -92,6 +92,7 @@ impl Counters {
         }
         match (0..4).find(|&entry| self.answers[entry][0] < least) {
             Some(entry) => Err(format!("{} was accepted too seldom", ENTRIES[entry])),
+            None if self.most_moves() < 63 => Err(String::from("no event had 63 moves")),
             None => Ok(()),
         }
     }

@@ -8,94 +8,54 @@ use crate::plan::Plan;
 use crate::universe::Size;
 use reference::Mutant;
 use std::collections::HashSet;
+use std::fmt;
 
 /// Every well-formed machine of these sizes, settled or not, with every event.
 pub const ALL_QUICK: &[Size] = &[
-    Size {
-        n: 1,
-        tasks: 2,
-        prios: &[1, 99],
-        policies: &[1, 2],
-        slices: &[1, 2],
-    },
-    Size {
-        n: 2,
-        tasks: 2,
-        prios: &[40, 50],
-        policies: &[1],
-        slices: &[100],
-    },
+    size(1, 2, &[1, 99], &[1, 2], &[1, 2], false),
+    size(2, 2, &[40, 50], &[1], &[100], false),
 ];
 
 pub const ALL_FULL: &[Size] = &[
-    Size {
-        n: 1,
-        tasks: 3,
-        prios: &[1, 99],
-        policies: &[2],
-        slices: &[1, 2],
-    },
-    Size {
-        n: 2,
-        tasks: 2,
-        prios: &[40, 50],
-        policies: &[1, 2],
-        slices: &[1],
-    },
-    Size {
-        n: 3,
-        tasks: 2,
-        prios: &[40, 50],
-        policies: &[1],
-        slices: &[100],
-    },
+    size(1, 3, &[1, 99], &[2], &[1, 2], false),
+    size(2, 2, &[40, 50], &[1, 2], &[1], false),
+    size(3, 3, &[40, 50], &[1], &[100], true),
 ];
 
 /// Every machine that events lead to from the fresh one.
-pub const REACH: &[Size] = &[
-    Size {
-        n: 1,
-        tasks: 3,
-        prios: &[10, 20],
-        policies: &[1],
-        slices: &[100],
-    },
-    Size {
-        n: 1,
-        tasks: 2,
-        prios: &[10, 20],
-        policies: &[1, 2],
-        slices: &[1, 2, 100],
-    },
-    Size {
-        n: 2,
-        tasks: 2,
-        prios: &[10, 20, 30],
-        policies: &[1],
-        slices: &[100],
-    },
-    Size {
-        n: 2,
-        tasks: 3,
-        prios: &[10, 20],
-        policies: &[1],
-        slices: &[100],
-    },
-    Size {
-        n: 3,
-        tasks: 2,
-        prios: &[10, 20],
-        policies: &[1],
-        slices: &[100],
-    },
-    Size {
-        n: 3,
-        tasks: 3,
-        prios: &[10, 20, 30],
-        policies: &[1],
-        slices: &[100],
-    },
+pub const REACH_QUICK: &[Size] = &[
+    size(1, 2, &[10, 20], &[1, 2], &[1, 2, 100], false),
+    size(2, 2, &[10, 20], &[1], &[100], false),
 ];
+
+pub const REACH_FULL: &[Size] = &[
+    size(1, 3, &[10, 20], &[1], &[100], false),
+    size(2, 2, &[10, 20, 30], &[1], &[100], false),
+    size(2, 3, &[10, 20], &[1], &[100], false),
+];
+
+/// Every machine that wakes, sleeps, ticks and yields lead to, from any priorities and masks.
+pub const RUN_QUICK: &[Size] = &[size(2, 3, &[10, 20, 30], &[1], &[100], false)];
+
+pub const RUN_FULL: &[Size] = &[size(3, 3, &[10, 20], &[1], &[100], false)];
+
+const fn size(
+    n: usize,
+    tasks: usize,
+    prios: &'static [u8],
+    policies: &'static [u8],
+    slices: &'static [u8],
+    crowded: bool,
+) -> Size {
+    Size {
+        n,
+        tasks,
+        prios,
+        policies,
+        slices,
+        crowded,
+    }
+}
 
 /// How far a search came.
 pub struct Reached {
@@ -104,6 +64,14 @@ pub struct Reached {
     pub depth: usize,
     /// No machine was left.
     pub whole: bool,
+}
+
+impl fmt::Display for Reached {
+    fn fmt(&self, f: &mut fmt::Formatter) -> fmt::Result {
+        let whole = if self.whole { "all" } else { "not all" };
+        let (machines, depth) = (self.machines, self.depth);
+        write!(f, "reaches {machines} machines, {whole}, depth {depth}")
+    }
 }
 
 /// Every event on one machine; gives the machines that follow to `next`.
@@ -176,17 +144,42 @@ pub fn all(size: &Size, mutant: Mutant, counters: &mut Counters) -> Result<usize
     Ok(machines.len())
 }
 
-/// Breadth first from the fresh machine, until no machine is new or so many calls have been compared.
+/// Every event, from the fresh machine, until no machine is new or so many calls have been compared.
 pub fn reach(
     size: &Size,
     limit: u64,
     mutant: Mutant,
     counters: &mut Counters,
 ) -> Result<Reached, Box<Failure>> {
-    let calls = calls_of(size);
+    let starts = vec![Plan::empty(size.n)];
+    search(starts, &calls_of(size), size, limit, mutant, counters)
+}
+
+/// Every wake, sleep, tick and yield, from every setting of the size, until no machine is new or so many calls have
+/// been compared.
+pub fn run_on(
+    size: &Size,
+    limit: u64,
+    mutant: Mutant,
+    counters: &mut Counters,
+) -> Result<Reached, Box<Failure>> {
+    let runs = |call: &Call| matches!(call, Call::Event(e) if matches!(e.kind, 3 | 4 | 7 | 8));
+    let calls: Vec<Call> = calls_of(size).into_iter().filter(runs).collect();
+    search(size.settings(), &calls, size, limit, mutant, counters)
+}
+
+/// Breadth first.
+fn search(
+    starts: Vec<Plan>,
+    calls: &[Call],
+    size: &Size,
+    limit: u64,
+    mutant: Mutant,
+    counters: &mut Counters,
+) -> Result<Reached, Box<Failure>> {
     let until = counters.calls + limit;
-    let mut seen = HashSet::from([Plan::empty(size.n)]);
-    let mut layer = vec![Plan::empty(size.n)];
+    let mut seen: HashSet<Plan> = starts.iter().cloned().collect();
+    let mut layer = starts;
     let mut depth = 0;
     while !layer.is_empty() {
         let mut following = Vec::new();
@@ -207,7 +200,7 @@ pub fn reach(
                     }
                 }
             };
-            if let Some(failure) = every_event(plan, &calls, mutant, counters, &mut next) {
+            if let Some(failure) = every_event(plan, calls, mutant, counters, &mut next) {
                 return Err(Box::new(failure));
             }
         }

@@ -145,12 +145,10 @@ fn task_count(rng: &mut Rng, n: usize) -> usize {
 }
 
 /// A chain: CPU c runs a task that may use c and c+1, each lower than the one before. One that takes the first
-/// CPU pushes all the others on.
-fn chain(rng: &mut Rng, style: &Style) -> Plan {
+/// CPU pushes all the others on: task 511, which sleeps yet or waits already.
+pub fn chain(rng: &mut Rng, style: &Style, asleep: bool) -> (Plan, Vec<u16>) {
     let mut plan = Plan::empty(style.n);
-    let asleep = rng.percent(50);
-    let links = style.n.min(90);
-    for c in 0..links {
+    for c in 0..style.n {
         plan.tasks.push(TaskPlan {
             id: c as u16,
             runnable: true,
@@ -170,7 +168,8 @@ fn chain(rng: &mut Rng, style: &Style) -> Plan {
         slice: 7,
         mask: 1,
     });
-    plan
+    let pool = plan.tasks.iter().map(|task| task.id).collect();
+    (plan, pool)
 }
 
 /// A machine and the task numbers its events will mostly speak of.
@@ -182,9 +181,8 @@ pub fn machine(rng: &mut Rng, style: &Style) -> (Plan, Vec<u16>) {
     let count = task_count(rng, style.n);
     let pool: Vec<u16> = ids[..(count + 4).min(TASKS)].to_vec();
     if rng.percent(4) {
-        let plan = chain(rng, style);
-        let ids = plan.tasks.iter().map(|task| task.id).collect();
-        return (plan, ids);
+        let asleep = rng.percent(50);
+        return chain(rng, style, asleep);
     }
     let mut plan = Plan::empty(style.n);
     let some = rng.next();

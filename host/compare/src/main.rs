@@ -16,7 +16,8 @@ usage: compare [options] [random|damaged|exhaustive|vectors|mutants|all]
 Compares the library with an independent second scheduler. Without a mode: all.
 
   --seed S      the seed of random and damaged (1)
-  --calls N     calls in each of random and damaged (1000000 and 300000; quick 60000 and 40000)
+  --calls N     calls in each of random and damaged (1000000 and 300000; quick 100000 and 60000),
+                and at most in each search of exhaustive (no limit)
   --quick       the shorter run
   --case K      this case of random or damaged alone
   --mutant M    with the error M in the second scheduler: a difference is expected
@@ -104,7 +105,7 @@ fn run_vectors(options: &Options) -> bool {
 fn run_random(options: &Options, counters: &mut Counters) -> bool {
     let calls = options
         .calls
-        .unwrap_or(if options.quick { 60_000 } else { 1_000_000 });
+        .unwrap_or(if options.quick { 100_000 } else { 1_000_000 });
     report(match options.case {
         Some(case) => random::run_case(options.seed, case, options.mutant, counters),
         None => random::run(options.seed, calls, options.mutant, counters),
@@ -114,7 +115,7 @@ fn run_random(options: &Options, counters: &mut Counters) -> bool {
 fn run_damaged(options: &Options, counters: &mut Counters) -> bool {
     let calls = options
         .calls
-        .unwrap_or(if options.quick { 40_000 } else { 300_000 });
+        .unwrap_or(if options.quick { 60_000 } else { 300_000 });
     report(match options.case {
         Some(case) => damaged::run_case(options.seed, case, options.mutant, counters),
         None => damaged::every_length(options.mutant, counters)
@@ -129,39 +130,40 @@ fn size_words(size: &Size) -> String {
         prios,
         policies,
         slices,
+        crowded,
     } = size;
-    format!("N={n} tasks={tasks} prios={prios:?} policies={policies:?} slices={slices:?} all masks")
+    let crowded = if *crowded { ", all runnable" } else { "" };
+    format!("N={n} tasks={tasks} prios={prios:?} policies={policies:?} slices={slices:?} all masks{crowded}")
+}
+
+/// The sizes of the run: the quick ones, and in a full run the others too.
+fn sizes(options: &Options, quick: &[Size], full: &[Size]) -> Vec<Size> {
+    match options.quick {
+        true => quick.to_vec(),
+        false => [quick, full].concat(),
+    }
 }
 
 fn run_exhaustive(options: &Options, counters: &mut Counters) -> bool {
-    let sizes = match options.quick {
-        true => exhaustive::ALL_QUICK.to_vec(),
-        false => [exhaustive::ALL_QUICK, exhaustive::ALL_FULL].concat(),
-    };
-    for size in &sizes {
-        let calls = counters.calls;
-        match exhaustive::all(size, options.mutant, counters) {
+    use exhaustive::*;
+    let limit = options.calls.unwrap_or(u64::MAX / 2);
+    let m = options.mutant;
+    for size in &sizes(options, ALL_QUICK, ALL_FULL) {
+        match all(size, m, counters) {
             Err(failure) => return report(Some(*failure)),
-            Ok(machines) => println!(
-                "  all {machines} machines, {} calls: {}",
-                counters.calls - calls,
-                size_words(size)
-            ),
+            Ok(machines) => println!("  all {machines} machines: {}", size_words(size)),
         }
     }
-    let limit = if options.quick { 100_000 } else { 600_000 };
-    for size in exhaustive::REACH {
-        let calls = counters.calls;
-        match exhaustive::reach(size, limit, options.mutant, counters) {
+    for size in &sizes(options, REACH_QUICK, REACH_FULL) {
+        match reach(size, limit, m, counters) {
             Err(failure) => return report(Some(*failure)),
-            Ok(reached) => println!(
-                "  reached {} machines, depth {}{}, {} calls: {}",
-                reached.machines,
-                reached.depth,
-                if reached.whole { " (all)" } else { "" },
-                counters.calls - calls,
-                size_words(size)
-            ),
+            Ok(reached) => println!("  every event {reached}: {}", size_words(size)),
+        }
+    }
+    for size in &sizes(options, RUN_QUICK, RUN_FULL) {
+        match run_on(size, limit, m, counters) {
+            Err(failure) => return report(Some(*failure)),
+            Ok(reached) => println!("  wake, sleep, tick, yield {reached}: {}", size_words(size)),
         }
     }
     true

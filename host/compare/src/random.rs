@@ -1,10 +1,12 @@
 //! Mode random: well-formed machines, and long or short runs of calls on each.
 
+use crate::call::Call;
 use crate::case::{Case, Failure};
 use crate::counters::Counters;
 use crate::events;
-use crate::generate::{machine, Style};
+use crate::generate::{chain, machine, Style};
 use crate::rng::Rng;
+use binding::Event;
 use reference::Mutant;
 
 /// How many calls: mostly few, since only the first event meets an unsettled machine; now and then very many.
@@ -17,7 +19,17 @@ fn length(rng: &mut Rng) -> usize {
     }
 }
 
-/// One case: the failure, if any.
+fn wake(who: u32) -> Event {
+    Event {
+        kind: 3,
+        who,
+        a: 0,
+        b: 0,
+        mask: 0,
+    }
+}
+
+/// One case: the failure, if any. Case N-1 begins with the longest chain of moves that N CPUs can have.
 pub fn run_case(
     seed: u64,
     number: u64,
@@ -25,8 +37,16 @@ pub fn run_case(
     counters: &mut Counters,
 ) -> Option<Failure> {
     let mut rng = Rng::for_case(seed, number);
-    let style = Style::random(&mut rng);
-    let (plan, pool) = machine(&mut rng, &style);
+    let mut style = Style::random(&mut rng);
+    let mut calls = Vec::new();
+    let (plan, pool) = match number {
+        0..=63 => {
+            style.n = number as usize + 1;
+            calls.push(Call::Event(wake(511)));
+            chain(&mut rng, &style, true)
+        }
+        _ => machine(&mut rng, &style),
+    };
     let length = length(&mut rng);
     let mut case = Case {
         plan,
@@ -35,8 +55,9 @@ pub fn run_case(
     };
     let mut pair = case.start(mutant);
     counters.cases += 1;
-    for _ in 0..length {
-        let call = events::call(&mut rng, &pair.ours, &style, &pool);
+    for i in 0..length {
+        let random = || events::call(&mut rng, &pair.ours, &style, &pool);
+        let call = calls.get(i).copied().unwrap_or_else(random);
         case.calls.push(call);
         match pair.call(call) {
             Ok(answer) => counters.count(call, answer),

@@ -13,6 +13,8 @@ pub struct Size {
     pub policies: &'static [u8],
     /// Slices that machines have; a machine with others is not gone on from.
     pub slices: &'static [u8],
+    /// Of `machines`: no place is free or asleep, and no CPU has ordinary work.
+    pub crowded: bool,
 }
 
 impl Size {
@@ -58,11 +60,14 @@ impl Size {
 
     /// Every way a task place can be: free (none), asleep, or runnable on an allowed CPU.
     fn places(&self, id: usize) -> Vec<Option<TaskPlan>> {
-        let mut all = vec![None];
+        let mut all = Vec::new();
+        if !self.crowded {
+            all.push(None);
+        }
         for mask in 1..=full(self.n) {
             for cpu in 0..self.n {
                 for runnable in [false, true] {
-                    if runnable && mask >> cpu & 1 == 0 {
+                    if runnable && mask >> cpu & 1 == 0 || !runnable && self.crowded {
                         continue;
                     }
                     self.numbers(|policy, prio, slice| {
@@ -92,6 +97,43 @@ impl Size {
         }
     }
 
+    /// Every machine whose tasks are all asleep on their lowest-numbered allowed CPU, but for renaming tasks.
+    pub fn settings(&self) -> Vec<Plan> {
+        let mut kinds = Vec::new();
+        for mask in 1..=full(self.n) {
+            self.numbers(|policy, prio, slice| {
+                kinds.push(TaskPlan {
+                    id: 0,
+                    runnable: false,
+                    policy,
+                    prio,
+                    cpu: mask.trailing_zeros() as u8,
+                    slice,
+                    mask,
+                })
+            });
+        }
+        let mut sets: Vec<Vec<usize>> = vec![Vec::new()];
+        for _ in 0..self.tasks {
+            let longer = |set: &Vec<usize>| -> Vec<Vec<usize>> {
+                let least = set.last().copied().unwrap_or(0);
+                (least..kinds.len())
+                    .map(|kind| [set.clone(), vec![kind]].concat())
+                    .collect()
+            };
+            sets = sets.iter().flat_map(longer).collect();
+        }
+        let task = |(id, &kind): (usize, &usize)| TaskPlan {
+            id: id as u16,
+            ..kinds[kind].clone()
+        };
+        let plan = |set: Vec<usize>| Plan {
+            tasks: set.iter().enumerate().map(task).collect(),
+            ..Plan::empty(self.n)
+        };
+        sets.into_iter().map(plan).collect()
+    }
+
     /// Every well-formed machine, settled or not, each once.
     pub fn machines(&self) -> Vec<Plan> {
         let mut sets: Vec<Vec<TaskPlan>> = vec![Vec::new()];
@@ -105,10 +147,11 @@ impl Size {
             };
             sets = sets.iter().flat_map(longer).collect();
         }
+        let most = if self.crowded { 0 } else { full(self.n) };
         let mut all = Vec::new();
         for set in sets {
             for tasks in orders(&set) {
-                for flags in 0..=full(self.n) {
+                for flags in 0..=most {
                     all.push(Plan {
                         flags,
                         tasks: tasks.clone(),
