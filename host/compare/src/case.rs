@@ -46,12 +46,33 @@ impl Case {
             .find_map(|(i, &call)| pair.call(call).err().map(|difference| (i, difference)))
     }
 
+    /// Starts from the machine that the last call met, if that differs as well.
+    fn start_late(&mut self, mutant: Mutant) {
+        let mut pair = self.start(mutant);
+        let (last, before) = self.calls.split_last().expect("a call");
+        let met = before.iter().all(|&call| pair.call(call).is_ok());
+        if met && pair.ours.check() == 0 {
+            let late = Case {
+                plan: Plan {
+                    log: 0,
+                    ..Plan::read(&pair.ours)
+                },
+                damage: Vec::new(),
+                calls: vec![*last],
+            };
+            if late.run(mutant).is_some() {
+                *self = late;
+            }
+        }
+    }
+
     /// Leaves out calls, damage and tasks as long as something still differs. `tries` is the most runs for it.
     pub fn shrink(&mut self, mutant: Mutant, mut tries: usize) {
         let Some((last, _)) = self.run(mutant) else {
             return;
         };
         self.calls.truncate(last + 1);
+        self.start_late(mutant);
         for part in [Part::Tasks, Part::Calls, Part::Damage, Part::Tasks] {
             let mut size = part.len(self);
             while size > 0 {

@@ -146,7 +146,7 @@ fn other_value(rng: &mut Rng, old: u64) -> u64 {
         2 => old ^ (1 << rng.below(64)),
         3 => old ^ (1 << rng.below(8)),
         4 => rng.pick(&EDGES),
-        _ => rng.next() >> rng.below(64),
+        _ => rng.bits() >> rng.below(64),
     }
 }
 
@@ -211,7 +211,7 @@ fn word_bit(rng: &mut Rng) -> Damage {
     Damage::Set {
         table: 12,
         index: 1,
-        value: rng.next() >> rng.below(27),
+        value: rng.bits() >> rng.below(27),
     }
 }
 
@@ -293,7 +293,7 @@ pub fn other_n(rng: &mut Rng, n: usize) -> usize {
     ];
     match rng.percent(80) {
         true => rng.pick(&edges),
-        false => rng.next() as usize >> rng.below(64),
+        false => rng.bits() as usize >> rng.below(64),
     }
 }
 

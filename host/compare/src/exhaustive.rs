@@ -3,6 +3,8 @@
 use crate::call::Call;
 use crate::case::{Case, Failure};
 use crate::counters::Counters;
+use crate::damage::Damage;
+use crate::generate::full;
 use crate::pair::Pair;
 use crate::plan::Plan;
 use crate::universe::Size;
@@ -37,7 +39,7 @@ pub const REACH_FULL: &[Size] = &[
 /// Every machine that wakes, sleeps, ticks and yields lead to, from any priorities and masks.
 pub const RUN_QUICK: &[Size] = &[size(2, 3, &[10, 20, 30], &[1], &[100], false)];
 
-pub const RUN_FULL: &[Size] = &[size(3, 3, &[10, 20], &[1], &[100], false)];
+pub const RUN_FULL: &[Size] = &[size(3, 3, &[10, 20, 30], &[1], &[100], false)];
 
 const fn size(
     n: usize,
@@ -166,6 +168,61 @@ pub fn run_on(
     let runs = |call: &Call| matches!(call, Call::Event(e) if matches!(e.kind, 3 | 4 | 7 | 8));
     let calls: Vec<Call> = calls_of(size).into_iter().filter(runs).collect();
     search(size.settings(), &calls, size, limit, mutant, counters)
+}
+
+/// The finder with every level and every mask, on every record of up to three CPUs with these levels.
+pub fn finder(mutant: Mutant, counters: &mut Counters) -> Option<Failure> {
+    const LEVELS: [u8; 6] = [0, 1, 3, 63, 64, 101];
+    let questions = |n: usize| {
+        let masks = move |level| (0..=full(n) + 1).map(move |mask| Call::Find(level, mask));
+        (0..=103).flat_map(masks).collect::<Vec<Call>>()
+    };
+    for n in 1..=3u32 {
+        let calls = questions(n as usize);
+        for code in 0..LEVELS.len().pow(n) {
+            let level = |cpu: u32| LEVELS[code / LEVELS.len().pow(cpu) % LEVELS.len()];
+            let relevel = |cpu: u32| Damage::Relevel {
+                cpu: cpu as usize,
+                level: level(cpu),
+            };
+            let case = Case {
+                plan: Plan::empty(n as usize),
+                damage: (0..n).map(relevel).collect(),
+                calls: Vec::new(),
+            };
+            if let Some(failure) = every_question(case, &calls, mutant, counters) {
+                return Some(failure);
+            }
+        }
+    }
+    None
+}
+
+fn every_question(
+    mut case: Case,
+    calls: &[Call],
+    mutant: Mutant,
+    counters: &mut Counters,
+) -> Option<Failure> {
+    let mut pair = case.start(mutant);
+    counters.cases += 1;
+    for &call in calls {
+        match pair.call(call) {
+            Ok(answer) => counters.count(call, answer),
+            Err(difference) => {
+                case.calls.push(call);
+                return Some(Failure {
+                    mode: "exhaustive",
+                    from: None,
+                    mutant,
+                    case,
+                    calls: counters.calls + 1,
+                    difference,
+                });
+            }
+        }
+    }
+    None
 }
 
 /// Breadth first.

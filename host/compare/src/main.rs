@@ -166,7 +166,7 @@ fn run_exhaustive(options: &Options, counters: &mut Counters) -> bool {
             Ok(reached) => println!("  wake, sleep, tick, yield {reached}: {}", size_words(size)),
         }
     }
-    true
+    report(finder(m, counters))
 }
 
 fn first_call(failure: &Option<Failure>) -> String {

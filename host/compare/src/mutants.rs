@@ -32,6 +32,12 @@ pub fn hunt(mutant: Mutant, seed: u64, calls: u64) -> Hunt {
     }
 }
 
+/// Whether neither mode finds the error with so many calls.
+pub fn survives(mutant: Mutant, seed: u64, calls: u64) -> bool {
+    damaged::run(seed, calls, mutant, &mut Counters::default()).is_none()
+        && random::run(seed, calls, mutant, &mut Counters::default()).is_none()
+}
+
 /// All errors.
 pub fn hunt_all(seed: u64, calls: u64) -> Vec<Hunt> {
     let each = |&mutant: &Mutant| hunt(mutant, seed, calls);

@@ -220,9 +220,13 @@ pub fn len(t: &Tables, table: usize) -> usize {
     with_table!(t, table, v => v.len())
 }
 
+fn wide(number: impl Into<u64>) -> u64 {
+    number.into()
+}
+
 /// The number at a place, widened. The place is there.
 pub fn get(t: &Tables, table: usize, index: usize) -> u64 {
-    with_table!(t, table, v => v[index] as u64)
+    with_table!(t, table, v => wide(v[index]))
 }
 
 /// Puts the low bits of a number at a place, if the place is there.
@@ -277,7 +281,7 @@ pub fn first_difference(
                 Some((table, None, a.len() as u64, b.len() as u64))
             } else {
                 let at = (0..a.len()).find(|&i| a[i] != b[i]);
-                at.map(|i| (table, Some(i), a[i] as u64, b[i] as u64))
+                at.map(|i| (table, Some(i), wide(a[i]), wide(b[i])))
             }
         })
     })
