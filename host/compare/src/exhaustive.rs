@@ -1,7 +1,7 @@
 //! Mode exhaustive: every event on every machine of a small size, and on every machine that events lead to.
 
 use crate::call::Call;
-use crate::case::{Case, Failure};
+use crate::case::{Case, Failure, Origin};
 use crate::counters::Counters;
 use crate::damage::Damage;
 use crate::generate::full;
@@ -37,7 +37,10 @@ pub const REACH_FULL: &[Size] = &[
 ];
 
 /// Every machine that wakes, sleeps, ticks and yields lead to, from any priorities and masks.
-pub const RUN_QUICK: &[Size] = &[size(2, 3, &[10, 20, 30], &[1], &[100], false)];
+pub const RUN_QUICK: &[Size] = &[
+    size(2, 3, &[10, 20, 30], &[1], &[100], false),
+    size(3, 3, &[10, 20], &[1], &[100], false),
+];
 
 pub const RUN_FULL: &[Size] = &[size(3, 3, &[10, 20, 30], &[1], &[100], false)];
 
@@ -101,18 +104,19 @@ fn every_event(
                     damage: Vec::new(),
                     calls: vec![call],
                 };
-                return Some(Failure {
-                    mode: "exhaustive",
-                    from: None,
-                    mutant,
-                    case,
-                    calls: counters.calls + 1,
-                    difference,
-                });
+                return Some(origin(mutant).failure(case, counters, difference));
             }
         }
     }
     None
+}
+
+fn origin(mutant: Mutant) -> Origin {
+    Origin {
+        mode: "exhaustive",
+        from: None,
+        mutant,
+    }
 }
 
 /// Whether a call can show something that another of the same machine does not: an add to a place in use, and a
@@ -188,37 +192,10 @@ pub fn finder(mutant: Mutant, counters: &mut Counters) -> Option<Failure> {
             let case = Case {
                 plan: Plan::empty(n as usize),
                 damage: (0..n).map(relevel).collect(),
-                calls: Vec::new(),
+                calls: calls.clone(),
             };
-            if let Some(failure) = every_question(case, &calls, mutant, counters) {
+            if let Some(failure) = case.run_counted(origin(mutant), counters) {
                 return Some(failure);
-            }
-        }
-    }
-    None
-}
-
-fn every_question(
-    mut case: Case,
-    calls: &[Call],
-    mutant: Mutant,
-    counters: &mut Counters,
-) -> Option<Failure> {
-    let mut pair = case.start(mutant);
-    counters.cases += 1;
-    for &call in calls {
-        match pair.call(call) {
-            Ok(answer) => counters.count(call, answer),
-            Err(difference) => {
-                case.calls.push(call);
-                return Some(Failure {
-                    mode: "exhaustive",
-                    from: None,
-                    mutant,
-                    case,
-                    calls: counters.calls + 1,
-                    difference,
-                });
             }
         }
     }

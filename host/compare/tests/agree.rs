@@ -1,8 +1,8 @@
 //! Small runs of the modes: our library and the reference agree.
 
-use compare::counters::Counters;
+use compare::counters::{Counters, REFUSALS};
 use compare::vectors::{wrong, Side};
-use compare::{damaged, exhaustive, random};
+use compare::{damaged, exhaustive, random, sweep};
 use reference::Mutant;
 
 fn none(failure: Option<compare::case::Failure>) {
@@ -32,9 +32,18 @@ fn random_machines() {
 #[test]
 fn damaged_tables() {
     let mut counters = Counters::default();
-    none(damaged::every_length(Mutant::None, &mut counters));
     none(damaged::run(2, 10_000, Mutant::None, &mut counters));
     assert!((1..=9).all(|number| counters.answers[2][number] > 0));
+}
+
+#[test]
+fn every_length_place_and_number() {
+    let mut counters = Counters::default();
+    none(sweep::run(Mutant::None, &mut counters));
+    // All refusals but the finder's, whose questions are those of `finder_questions`.
+    for (entry, number) in REFUSALS.into_iter().filter(|&(entry, _)| entry < 3) {
+        assert!(counters.answers[entry][number] > 0);
+    }
 }
 
 #[test]
@@ -49,4 +58,12 @@ fn small_machines() {
         let reached = reached.unwrap_or_else(|failure| panic!("{}", failure.cut_down()));
         assert!(reached.whole);
     }
+}
+
+#[test]
+fn finder_questions() {
+    let mut counters = Counters::default();
+    none(exhaustive::finder(Mutant::None, &mut counters));
+    assert!(counters.found > 0 && counters.found_none > 0);
+    assert!(counters.answers[3][7] > 0 && counters.answers[3][8] > 0);
 }

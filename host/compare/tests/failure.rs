@@ -13,8 +13,8 @@ fn fails(mutant: Mutant) -> Failure {
 #[test]
 fn a_failure_comes_again_and_gets_small() {
     let failure = fails(Mutant::LowestMoverFirst);
-    let (seed, case) = failure.from.expect("a seed and a case");
-    let again = random::run_case(seed, case, failure.mutant, &mut Counters::default());
+    let (seed, case) = failure.origin.from.expect("a seed and a case");
+    let again = random::run_case(seed, case, failure.origin.mutant, &mut Counters::default());
     assert_eq!(again.expect("again").difference, failure.difference);
     let small = failure.cut_down();
     assert!(small.case.run(Mutant::LowestMoverFirst).is_some());
