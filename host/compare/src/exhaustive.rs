@@ -89,13 +89,15 @@ fn every_event(
 ) -> Option<Failure> {
     let start = Pair::new(plan.tables(), mutant);
     counters.cases += 1;
+    let mut pair = start.clone();
     for &call in calls.iter().filter(|call| tells(plan, call)) {
-        let mut pair = start.clone();
         match pair.call(call) {
             Ok(answer) => {
                 counters.count(call, answer);
+                // A refused call has left the pair as it was.
                 if answer.number == 0 {
                     next(Plan::read(&pair.ours));
+                    pair = start.clone();
                 }
             }
             Err(difference) => {
