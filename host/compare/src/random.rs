@@ -1,0 +1,91 @@
+//! Mode random: well-formed machines, and long or short runs of calls on each.
+
+use crate::call::Call;
+use crate::case::{Case, Failure, Origin};
+use crate::counters::Counters;
+use crate::events;
+use crate::generate::{chain, machine, Style};
+use crate::plan::Plan;
+use crate::rng::Rng;
+use binding::Event;
+use reference::Mutant;
+
+/// How many calls: mostly few, since only the first event meets an unsettled machine; now and then very many.
+fn length(rng: &mut Rng) -> usize {
+    match rng.below(200) {
+        0 => 2000,
+        1..=15 => 200,
+        16..=40 => 60,
+        _ => rng.pick(&[1, 1, 2, 2, 8]),
+    }
+}
+
+fn wake(who: u32) -> Event {
+    Event {
+        kind: 3,
+        who,
+        a: 0,
+        b: 0,
+        mask: 0,
+    }
+}
+
+/// A machine, the task numbers in use, and the call to begin with, if it is not any. Case N-1 begins with the
+/// longest chain of moves that N CPUs can have.
+fn opening(rng: &mut Rng, style: &mut Style, number: u64) -> (Plan, Vec<u16>, Option<Call>) {
+    if number < 64 {
+        style.n = number as usize + 1;
+        let (plan, pool) = chain(rng, style, true);
+        return (plan, pool, Some(Call::Event(wake(511))));
+    }
+    let (plan, pool) = machine(rng, style);
+    (plan, pool, None)
+}
+
+/// One case: the failure, if any.
+pub fn run_case(
+    seed: u64,
+    number: u64,
+    mutant: Mutant,
+    counters: &mut Counters,
+) -> Option<Failure> {
+    let mut rng = Rng::for_case(seed, number);
+    let mut style = Style::random(&mut rng);
+    let (plan, pool, mut first) = opening(&mut rng, &mut style, number);
+    let length = length(&mut rng);
+    let mut case = Case {
+        plan,
+        damage: Vec::new(),
+        calls: Vec::new(),
+    };
+    let origin = Origin {
+        mode: "random",
+        from: Some((seed, number)),
+        mutant,
+    };
+    let mut pair = case.start(mutant);
+    counters.cases += 1;
+    for _ in 0..length {
+        let random = || events::call(&mut rng, &pair.ours, &style, &pool);
+        let call = first.take().unwrap_or_else(random);
+        case.calls.push(call);
+        match pair.call(call) {
+            Ok(answer) => counters.count(call, answer),
+            Err(difference) => return Some(origin.failure(case, counters, difference)),
+        }
+    }
+    None
+}
+
+/// Cases until so many calls have been compared.
+pub fn run(seed: u64, calls: u64, mutant: Mutant, counters: &mut Counters) -> Option<Failure> {
+    let until = counters.calls + calls;
+    let mut number = 0;
+    while counters.calls < until {
+        if let Some(failure) = run_case(seed, number, mutant, counters) {
+            return Some(failure);
+        }
+        number += 1;
+    }
+    None
+}

@@ -1,0 +1,249 @@
+//! All machines and all events of a small size.
+
+use crate::generate::full;
+use crate::plan::{Plan, TaskPlan};
+use binding::Event;
+
+/// What tasks and events are made of. Task places are 0 to `tasks - 1`.
+#[derive(Clone, Copy, Debug)]
+pub struct Size {
+    pub n: usize,
+    pub tasks: usize,
+    pub prios: &'static [u8],
+    pub policies: &'static [u8],
+    /// Slices that machines have; a machine with others is not gone on from.
+    pub slices: &'static [u8],
+    /// Of `machines`: no place is free or asleep, and no CPU has ordinary work.
+    pub crowded: bool,
+}
+
+fn event(kind: u32, who: usize, a: u8, b: u8, mask: u64) -> Event {
+    Event {
+        kind,
+        who: who as u32,
+        a: u32::from(a),
+        b: u32::from(b),
+        mask,
+    }
+}
+
+impl Size {
+    /// Every event with this size's numbers.
+    pub fn events(&self) -> Vec<Event> {
+        let mut events = self.refused();
+        for who in 0..self.tasks {
+            for mask in 1..=full(self.n) {
+                for &policy in self.policies {
+                    for &prio in self.prios {
+                        events.push(event(1, who, policy, prio, mask));
+                    }
+                }
+                events.push(event(6, who, 0, 0, mask));
+            }
+            for kind in 2..=4 {
+                events.push(event(kind, who, 0, 0, 0));
+            }
+            for &prio in self.prios {
+                events.push(event(5, who, 0, prio, 0));
+            }
+        }
+        for cpu in 0..self.n {
+            events.push(event(7, cpu, 0, 0, 0));
+            events.push(event(8, cpu, 0, 0, 0));
+            events.push(event(9, cpu, 0, 0, 0));
+            events.push(event(9, cpu, 0, 1, 0));
+        }
+        events
+    }
+
+    /// Some with a number just past this size's.
+    fn refused(&self) -> Vec<Event> {
+        let past = full(self.n) + 1;
+        vec![
+            event(0, 0, 1, 1, 1),
+            event(10, 0, 1, 1, 1),
+            event(1, 0, 3, 1, 1),
+            event(1, 0, 1, 0, 1),
+            event(1, 0, 1, 1, 0),
+            event(6, 0, 0, 0, past),
+            event(5, 0, 0, 100, 0),
+            event(7, self.n, 0, 0, 0),
+            event(9, 0, 0, 2, 0),
+        ]
+    }
+
+    /// Every way a task place can be: free (none), asleep, or runnable on an allowed CPU.
+    fn places(&self, id: usize) -> Vec<Option<TaskPlan>> {
+        let mut all = Vec::new();
+        if !self.crowded {
+            all.push(None);
+        }
+        for mask in 1..=full(self.n) {
+            for cpu in 0..self.n {
+                for runnable in [false, true] {
+                    if runnable && mask >> cpu & 1 == 0 || !runnable && self.crowded {
+                        continue;
+                    }
+                    self.numbers(|policy, prio, slice| {
+                        all.push(Some(TaskPlan {
+                            id: id as u16,
+                            runnable,
+                            policy,
+                            prio,
+                            cpu: cpu as u8,
+                            slice,
+                            mask,
+                        }))
+                    });
+                }
+            }
+        }
+        all
+    }
+
+    fn numbers(&self, mut with: impl FnMut(u8, u8, u8)) {
+        for &policy in self.policies {
+            for &prio in self.prios {
+                for &slice in self.slices {
+                    with(policy, prio, slice);
+                }
+            }
+        }
+    }
+
+    /// Every machine whose tasks are all asleep on their lowest-numbered allowed CPU, but for renaming tasks.
+    pub fn settings(&self) -> Vec<Plan> {
+        let mut kinds = Vec::new();
+        for mask in 1..=full(self.n) {
+            self.numbers(|policy, prio, slice| {
+                kinds.push(TaskPlan {
+                    id: 0,
+                    runnable: false,
+                    policy,
+                    prio,
+                    cpu: mask.trailing_zeros() as u8,
+                    slice,
+                    mask,
+                })
+            });
+        }
+        let mut sets: Vec<Vec<usize>> = vec![Vec::new()];
+        for _ in 0..self.tasks {
+            let longer = |set: &Vec<usize>| -> Vec<Vec<usize>> {
+                let least = set.last().copied().unwrap_or(0);
+                (least..kinds.len())
+                    .map(|kind| [set.clone(), vec![kind]].concat())
+                    .collect()
+            };
+            sets = sets.iter().flat_map(longer).collect();
+        }
+        let task = |(id, &kind): (usize, &usize)| TaskPlan {
+            id: id as u16,
+            ..kinds[kind].clone()
+        };
+        let plan = |set: Vec<usize>| Plan {
+            tasks: set.iter().enumerate().map(task).collect(),
+            ..Plan::empty(self.n)
+        };
+        sets.into_iter().map(plan).collect()
+    }
+
+    /// Every well-formed machine, settled or not, each once.
+    pub fn machines(&self) -> Vec<Plan> {
+        let mut sets: Vec<Vec<TaskPlan>> = vec![Vec::new()];
+        for id in 0..self.tasks {
+            let places = self.places(id);
+            let longer = |set: &Vec<TaskPlan>| -> Vec<Vec<TaskPlan>> {
+                places
+                    .iter()
+                    .map(|place| set.iter().chain(place).cloned().collect())
+                    .collect()
+            };
+            sets = sets.iter().flat_map(longer).collect();
+        }
+        let most = if self.crowded { 0 } else { full(self.n) };
+        let mut all = Vec::new();
+        for set in sets {
+            for tasks in orders(&set) {
+                for flags in 0..=most {
+                    all.push(Plan {
+                        flags,
+                        tasks: tasks.clone(),
+                        ..Plan::empty(self.n)
+                    });
+                }
+            }
+        }
+        all
+    }
+}
+
+/// Every order in which the runnable tasks can stand in their rows, each once; sleepers in front.
+fn orders(set: &[TaskPlan]) -> Vec<Vec<TaskPlan>> {
+    let key = |t: &TaskPlan| (t.runnable, t.runnable.then_some((t.cpu, 99 - t.prio)));
+    let mut found = Vec::new();
+    permute(set.to_vec(), 0, &mut |order| {
+        let sorted = order.windows(2).all(|w| key(&w[0]) <= key(&w[1]));
+        let asleep: Vec<u16> = order.iter().filter(|t| !t.runnable).map(|t| t.id).collect();
+        if sorted && asleep.windows(2).all(|w| w[0] < w[1]) {
+            found.push(order.to_vec());
+        }
+    });
+    found
+}
+
+fn permute(mut items: Vec<TaskPlan>, from: usize, with: &mut impl FnMut(&[TaskPlan])) {
+    if from == items.len() {
+        return with(&items);
+    }
+    for i in from..items.len() {
+        items.swap(from, i);
+        permute(items.clone(), from + 1, with);
+    }
+}
+
+#[cfg(test)]
+mod tests {
+    use super::*;
+    use std::collections::HashSet;
+
+    const SMALL: Size = Size {
+        n: 2,
+        tasks: 2,
+        prios: &[7],
+        policies: &[1],
+        slices: &[100],
+        crowded: false,
+    };
+
+    #[test]
+    fn machines_are_counted_by_hand() {
+        let one = Size {
+            n: 1,
+            tasks: 1,
+            ..SMALL
+        };
+        // Free, asleep or runnable, with and without ordinary work.
+        assert_eq!(one.machines().len(), 6);
+        // A place: free; asleep, 2 CPUs times 3 masks; runnable, 4 ways. Two runnable of the same CPU, which are 2
+        // times 2 times 2 ways, stand in either order.
+        assert_eq!(SMALL.machines().len(), (11 * 11 + 8) * 4);
+    }
+
+    #[test]
+    fn machines_are_different_and_well_formed() {
+        let machines = SMALL.machines();
+        let different: HashSet<Plan> = machines.iter().cloned().collect();
+        assert_eq!(different.len(), machines.len());
+        for plan in machines {
+            assert_eq!(plan.tables().check(), 0);
+            assert_eq!(Plan::read(&plan.tables()), plan);
+        }
+    }
+
+    #[test]
+    fn settings_are_counted_by_hand() {
+        // Two of the masks 1, 2 and 3, in no order.
+        assert_eq!(SMALL.settings().len(), 6);
+    }
+}
