@@ -23,7 +23,7 @@ use Rattle.rules.proofs.Tables.{write-read, stored-test}
 use Rattle.rules.proofs.Entry.{checked-good, good-checked, answer-zero, handled-answer, handled-refused, handled-accepted, handled-good, start-n}
 use Rattle.rules.proofs.LentDemand3.{handled-lent}
 use Rattle.checker.specs.Lent.{lent}
-use Rattle.effects.specs.Lent.{LentAll, Answered}
+use Rattle.dispatch.specs.Lent.{LentAll, Answered}
 use Rattle.effects.specs.After.{applied, ifAccepted}
 use Rattle.placement.proofs.Order.{well-formed-order}
 use Rattle.migration.specs.Settling.{Settling, Ended}
