@@ -3,9 +3,9 @@ ghost use Prim.Native.Nat.{ℕ};
 ghost use Rattle.rules.specs.Machine.{Machine};
 ghost use Rattle.rules.specs.Events.{event};
 ghost use Rattle.effects.specs.Lent.{LentPriority, Reprioritised, LentAffinity, Reaffined};
+use cpupri::record::Record;
 use effects::answer::Applied;
 use effects::check;
-use cpupri::record::Record;
 use rules::answer;
 use rules::task;
 

@@ -188,12 +188,6 @@ module _ (n : ℕ) (r : Record) (s : Tables) (h : checked n r s ≡ 0) where
       pub log-long : length (t .log) ≡ logPlaces
       log-long = ap length log ∙ good .log
 
-      pub state-long : length (t .state) ≡ length (s .state)
-      state-long = ap (λ (x : Tables). length (x .state)) start-tables ∙ well .shape .state ∙ sym (good .machine .shape .state)
-
-      pub policy-long : length (t .policy) ≡ length (s .policy)
-      policy-long = ap (λ (x : Tables). length (x .policy)) start-tables ∙ well .shape .policy ∙ sym (good .machine .shape .policy)
-
       -- ---- after the steps
 
       module _ (cs ks flat lg : List ℕ) (k : ℕ) (p : Record)

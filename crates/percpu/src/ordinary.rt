@@ -3,9 +3,9 @@ ghost use Prim.Native.Nat.{ℕ};
 ghost use Rattle.rules.specs.Machine.{Machine};
 ghost use Rattle.rules.specs.Events.{event};
 ghost use Rattle.effects.specs.Lent.{LentOrdinary, Flagged};
-use effects::answer::Applied;
 use cpupri::level::Level;
 use cpupri::record::Record;
+use effects::answer::Applied;
 use rules::answer;
 
 // there is ordinary work; 0: there is none

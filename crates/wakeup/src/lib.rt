@@ -7,9 +7,9 @@ ghost use Rattle.cpupri.specs.Level.{cpuPlaces};
 ghost use Rattle.rules.specs.Machine.{Machine};
 ghost use Rattle.rules.specs.Events.{event};
 ghost use Rattle.effects.specs.Lent.{LentWake, Woken, LentSleep, Slept};
+use cpupri::record::Record;
 use effects::answer::Applied;
 use effects::check;
-use cpupri::record::Record;
 use rules::answer;
 use rules::task;
 
