@@ -1,4 +1,4 @@
--- `effects::change::set_priority` meets its contract. Assumes nothing.
+-- `change::set_priority` meets its contract. Assumes nothing.
 use borrow.Author.Needs.{needs}
 use mathlib.Core.Path.{_≡_, sym, ap, _∙_}
 use mathlib.Core.Logic.{_≢_}

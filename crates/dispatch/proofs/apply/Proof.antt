@@ -1,4 +1,4 @@
--- `effects::apply` meets its contract: in each arm the kind's own contract, and what the kind leaves as it was. Assumes nothing.
+-- `dispatch::apply` meets its contract: in each arm the kind's own contract, and what the kind leaves as it was. Assumes nothing.
 use borrow.Author.Needs.{needs}
 use mathlib.Core.Path.{ap}
 use Rattle.rules.specs.Events.{kindOf}

@@ -1,4 +1,4 @@
--- `effects::lifecycle::add` meets its contract. Assumes nothing.
+-- `lifecycle::add` meets its contract. Assumes nothing.
 use borrow.Author.Needs.{needs}
 use mathlib.Core.Path.{sym, ap, _∙_, subst}
 use Prim.Native.Nat.{ℕ, _≤_}

@@ -1,4 +1,4 @@
--- `effects::lifecycle::addable` meets its contract. Assumes nothing.
+-- `lifecycle::addable` meets its contract. Assumes nothing.
 use borrow.Author.Needs.{needs}
 use mathlib.Core.Path.{sym, ap, _∙_}
 use mathlib.Core.Bool.{not}

@@ -1,4 +1,4 @@
--- `effects::lifecycle::remove` meets its contract. Assumes nothing.
+-- `lifecycle::remove` meets its contract. Assumes nothing.
 use borrow.Author.Needs.{needs}
 use mathlib.Core.Path.{refl, sym, _∙_}
 use Rattle.rules.specs.Machine.{freeTask}

@@ -1,4 +1,4 @@
--- `effects::wakeup::sleep` meets its contract. Assumes nothing.
+-- `wakeup::sleep` meets its contract. Assumes nothing.
 use borrow.Author.Needs.{needs}
 use mathlib.Core.Path.{_≡_, sym, ap, _∙_}
 use mathlib.Core.List.{List}

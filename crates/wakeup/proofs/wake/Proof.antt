@@ -1,4 +1,4 @@
--- `effects::wakeup::wake` meets its contract. Assumes nothing.
+-- `wakeup::wake` meets its contract. Assumes nothing.
 use borrow.Author.Needs.{needs}
 use mathlib.Core.Path.{_≡_, sym, ap, _∙_, subst}
 use mathlib.Core.Bool.{cond}

@@ -1,4 +1,4 @@
--- `effects::wakeup::wake_cpu` meets its contract. Assumes nothing.
+-- `wakeup::wake_cpu` meets its contract. Assumes nothing.
 use borrow.Author.Needs.{needs}
 use mathlib.Core.Path.{sym, ap, _∙_}
 use mathlib.Core.Bool.{Bool, cond}

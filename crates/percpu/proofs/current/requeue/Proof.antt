@@ -1,4 +1,4 @@
--- `effects::current::requeue` meets its contract. Assumes nothing.
+-- `percpu::current::requeue` meets its contract. Assumes nothing.
 use borrow.Author.Needs.{needs}
 use mathlib.Core.Path.{sym, ap, _∙_, subst}
 use native.Mathlib.Omega.{arith}

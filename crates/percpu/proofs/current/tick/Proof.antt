@@ -1,4 +1,4 @@
--- `effects::current::tick` meets its contract. Assumes nothing.
+-- `percpu::current::tick` meets its contract. Assumes nothing.
 use borrow.Author.Needs.{needs}
 use mathlib.Core.Path.{_≡_, sym, ap, _∙_, subst}
 use mathlib.Core.Logic.{_≢_}

@@ -1,4 +1,4 @@
--- `effects::current::yield_cpu` meets its contract. Assumes nothing.
+-- `percpu::current::yield_cpu` meets its contract. Assumes nothing.
 use borrow.Author.Needs.{needs}
 use mathlib.Core.Path.{_≡_, sym, _∙_, subst}
 use mathlib.Core.Logic.{_≢_}

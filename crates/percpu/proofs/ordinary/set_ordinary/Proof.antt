@@ -1,4 +1,4 @@
--- `effects::ordinary::set_ordinary` meets its contract. Assumes nothing.
+-- `percpu::ordinary::set_ordinary` meets its contract. Assumes nothing.
 use borrow.Author.Needs.{needs}
 use mathlib.Core.Path.{_≡_, sym, ap, _∙_, subst}
 use mathlib.Core.List.{List}
