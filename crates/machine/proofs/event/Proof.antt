@@ -3,7 +3,7 @@ use borrow.Author.Needs.{needs}
 use mathlib.Core.Path.{refl, sym, _∙_}
 use Rattle.checker.specs.Lent.{lent}
 use Rattle.rules.specs.Events.{event}
-use Rattle.machine.proofs.Handling.{unchecked-result, result-demand}
+use Rattle.handling.proofs.Handling.{unchecked-result, result-demand}
 use Rattle.machine.proofs.event.Statement.{statement}
 use Rattle.machine.proofs.event.Tie as tie
 

@@ -1,4 +1,4 @@
--- `checker::fill::fill_u16` meets its contract. The loop's invariant: the places passed hold the value, the others what they held.
+-- `blank::fill::fill_u64` meets its contract. The loop's invariant: the places passed hold the value, the others what they held.
 -- Assumes nothing.
 use mathlib.Core.Path.{_≡_, refl, ap, _∙_}
 use Prim.Native.Nat.{ℕ, _-_, _≤_}
@@ -6,9 +6,9 @@ use mathlib.Core.List.{List, _++_}
 use native.Mathlib.Omega.{arith}
 use lib.ListN.{length, set, drop, replicate, length-set}
 use borrow.Author.Fill.{fill-more}
-use Rattle.checker.proofs.Filling.{fill-all}
-use Rattle.checker.proofs.fill.fill_u16.Statement.{statement}
-use Rattle.checker.proofs.fill.fill_u16.Tie as tie
+use Rattle.blank.proofs.Filling.{fill-all}
+use Rattle.blank.proofs.fill.fill_u64.Statement.{statement}
+use Rattle.blank.proofs.fill.fill_u64.Tie as tie
 
 abbrev Inv-loop : tie.InvT-loop
 Inv-loop table₀ value i₀ table i = (i ≤ length table₀) × (length table ≡ length table₀) × (table ≡ replicate i value ++ drop i table₀)
@@ -50,8 +50,8 @@ returns c =
     let a = c .before .before .args in
     l .inv .2 ∙ fill-all (a .table .now) (a .value) (l .i) (let e : l .i ≡ length (a .table .now) = omega arith in e)
 
-pub fill-u16-spec : {M : Type 1} → statement M
-fill-u16-spec =
+pub fill-u64-spec : {M : Type 1} → statement M
+fill-u64-spec =
     tie.close
     (tie.spec
     Inv-loop

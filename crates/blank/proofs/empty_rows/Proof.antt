@@ -1,7 +1,7 @@
--- `checker::fresh::empty_rows` meets its contract. Assumes nothing.
+-- `blank::empty_rows` meets its contract. Assumes nothing.
 use borrow.Author.Needs.{needs}
-use Rattle.checker.proofs.fresh.empty_rows.Statement.{statement}
-use Rattle.checker.proofs.fresh.empty_rows.Tie as tie
+use Rattle.blank.proofs.empty_rows.Statement.{statement}
+use Rattle.blank.proofs.empty_rows.Tie as tie
 
 fill-u16-requires : tie.Need-fill-u16-requires
 fill-u16-requires c κs = search needs

@@ -1,7 +1,7 @@
--- `checker::fresh::free_tasks` meets its contract. Assumes nothing.
+-- `blank::free_tasks` meets its contract. Assumes nothing.
 use borrow.Author.Needs.{needs}
-use Rattle.checker.proofs.fresh.free_tasks.Statement.{statement}
-use Rattle.checker.proofs.fresh.free_tasks.Tie as tie
+use Rattle.blank.proofs.free_tasks.Statement.{statement}
+use Rattle.blank.proofs.free_tasks.Tie as tie
 
 fill-u8-requires : tie.Need-fill-u8-requires
 fill-u8-requires c κs = search needs

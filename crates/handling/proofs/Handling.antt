@@ -27,7 +27,7 @@ use Rattle.dispatch.specs.Lent.{LentAll, Answered}
 use Rattle.effects.specs.After.{applied, ifAccepted}
 use Rattle.placement.proofs.Order.{well-formed-order}
 use Rattle.migration.specs.Settling.{Settling, Ended}
-use Rattle.machine.specs.Result.{result}
+use Rattle.handling.specs.Result.{result}
 
 -- tables that agree in every part
 record Same (s t : Tables) : Type 0 where

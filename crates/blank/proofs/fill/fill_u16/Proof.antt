@@ -1,4 +1,4 @@
--- `checker::fill::fill_u8` meets its contract. The loop's invariant: the places passed hold the value, the others what they held.
+-- `blank::fill::fill_u16` meets its contract. The loop's invariant: the places passed hold the value, the others what they held.
 -- Assumes nothing.
 use mathlib.Core.Path.{_≡_, refl, ap, _∙_}
 use Prim.Native.Nat.{ℕ, _-_, _≤_}
@@ -6,9 +6,9 @@ use mathlib.Core.List.{List, _++_}
 use native.Mathlib.Omega.{arith}
 use lib.ListN.{length, set, drop, replicate, length-set}
 use borrow.Author.Fill.{fill-more}
-use Rattle.checker.proofs.Filling.{fill-all}
-use Rattle.checker.proofs.fill.fill_u8.Statement.{statement}
-use Rattle.checker.proofs.fill.fill_u8.Tie as tie
+use Rattle.blank.proofs.Filling.{fill-all}
+use Rattle.blank.proofs.fill.fill_u16.Statement.{statement}
+use Rattle.blank.proofs.fill.fill_u16.Tie as tie
 
 abbrev Inv-loop : tie.InvT-loop
 Inv-loop table₀ value i₀ table i = (i ≤ length table₀) × (length table ≡ length table₀) × (table ≡ replicate i value ++ drop i table₀)
@@ -18,6 +18,9 @@ abbrev μ-loop : tie.MeasureT-loop
 
 loop-holds : tie.Need-loop-holds Inv-loop μ-loop
 loop-holds c = (omega arith, refl, refl)
+
+mul-table : tie.Need-mul-table Inv-loop μ-loop
+mul-table c = omega arith
 
 slice-write-table : tie.Need-slice-write-table Inv-loop μ-loop
 slice-write-table c = omega arith
@@ -47,13 +50,14 @@ returns c =
     let a = c .before .before .args in
     l .inv .2 ∙ fill-all (a .table .now) (a .value) (l .i) (let e : l .i ≡ length (a .table .now) = omega arith in e)
 
-pub fill-u8-spec : {M : Type 1} → statement M
-fill-u8-spec =
+pub fill-u16-spec : {M : Type 1} → statement M
+fill-u16-spec =
     tie.close
     (tie.spec
     Inv-loop
     μ-loop
     loop-holds
+    mul-table
     slice-write-table
     add-i
     loop-less

@@ -1,13 +1,13 @@
--- `machine::handle` meets its contract. Assumes nothing.
+-- `handling::handle` meets its contract. Assumes nothing.
 use mathlib.Core.Path.{refl, _∙_}
 use native.Mathlib.Omega.{arith}
 use Rattle.rules.specs.Events.{effect}
 use Rattle.rules.specs.Tables.{machineOf}
 use Rattle.checker.specs.Lent.{lent}
 use Rattle.rules.specs.Events.{event}
-use Rattle.machine.proofs.Handling.{lent-all, refused-result, start-settling, start-cpus, log-long, taken-result, taken-few}
-use Rattle.machine.proofs.handle.Statement.{statement}
-use Rattle.machine.proofs.handle.Tie as tie
+use Rattle.handling.proofs.Handling.{lent-all, refused-result, start-settling, start-cpus, log-long, taken-result, taken-few}
+use Rattle.handling.proofs.handle.Statement.{statement}
+use Rattle.handling.proofs.handle.Tie as tie
 
 apply-requires : tie.Need-apply-requires
 apply-requires c κs =
