@@ -9,8 +9,8 @@ pub fn chain() {
     let mut t = Tables::fresh(64);
     let mut c = 0u32;
     while c < 63 {
-        t = t.change(1, c, 1, 90 - c, 3 << c, false);
-        t = t.change(3, c, 0, 0, 0, false);
+        t = t.change(1, c, 1, 90 - c, 3 << c);
+        t = t.change(3, c, 0, 0, 0);
         c += 1;
     }
     t.add(63, 99, 1).wake(63);
@@ -53,5 +53,20 @@ pub fn damaged() {
     t.check();
     t = whole;
     t.flags[1] = 1;
-    t.check().event(8, 0, 0, 0, 0);
+    t.check().yields(0);
+}
+
+// Two equal tasks: the first yields, then goes to sleep and away.
+pub fn yield_and_remove() {
+    print::text(b"Yield and remove\n");
+    let t = Tables::fresh(1).add(0, 50, 1).add(1, 50, 1).wake(0).wake(1);
+    t.yields(0).sleep(0).remove(0);
+}
+
+// One CPU, and tables of two.
+pub fn wrong_length() {
+    print::text(b"Wrong length\n");
+    let mut t = Tables::fresh(1).add(0, 50, 1);
+    t.lent = 2;
+    t.wake(0);
 }
