@@ -104,7 +104,17 @@ fn every_length(mutant: Mutant, counters: &mut Counters) -> Option<Failure> {
     })
 }
 
-/// Each number of each table changed to others, near and far.
+/// Numbers near an old one and far from it. In tables of 64-bit words, also each of the bits at some limits.
+fn others(table: usize, old: u64) -> Vec<u64> {
+    let mut all = vec![old.wrapping_add(1), old.wrapping_sub(1), old ^ 128];
+    all.extend([0, 1, 2, 3, 100, 512, u64::MAX]);
+    if [5, 10, 12].contains(&table) {
+        all.extend([0, 2, 3, 37, 38, 63].map(|bit| old ^ (1 << bit)));
+    }
+    all
+}
+
+/// Each number of each table changed to others.
 fn every_place(mutant: Mutant, counters: &mut Counters) -> Option<Failure> {
     let good = machine().tables();
     let calls = vec![
@@ -115,8 +125,7 @@ fn every_place(mutant: Mutant, counters: &mut Counters) -> Option<Failure> {
     for table in 0..COUNT {
         for index in 0..len(&good, table) {
             let old = get(&good, table, index);
-            let near = [old.wrapping_add(1), old.wrapping_sub(1), old ^ 128];
-            for value in near.into_iter().chain([0, 1, 2, 3, 100, 512, u64::MAX]) {
+            for value in others(table, old) {
                 let case = Case {
                     plan: machine(),
                     damage: vec![Damage::Set {
