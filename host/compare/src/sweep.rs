@@ -48,15 +48,15 @@ fn machine() -> Plan {
     }
 }
 
-/// Each table of each wrong length, and each wrong N, with every entry: nothing is left to chance here.
-fn every_length(mutant: Mutant, counters: &mut Counters) -> Option<Failure> {
-    let mut damages = Vec::new();
+/// Each table of each wrong length, and each wrong N, also such that 512 times it wraps around.
+fn wrong_sizes() -> Vec<(Plan, Damage)> {
+    let mut all = Vec::new();
     for n in [1, 2, 3, 63, 64] {
         let plan = Plan::empty(n);
         let good = plan.tables();
         for table in 0..COUNT {
             let right = len(&good, table);
-            for len in [
+            let others = [
                 0,
                 1,
                 right - 1,
@@ -64,12 +64,11 @@ fn every_length(mutant: Mutant, counters: &mut Counters) -> Option<Failure> {
                 right / 2,
                 2 * right,
                 right + 512,
-            ] {
-                damages.push((plan.clone(), Damage::Resize { table, len }));
-            }
+            ];
+            all.extend(others.map(|len| (plan.clone(), Damage::Resize { table, len })));
         }
         let wraps = (1usize << (usize::BITS - 9)) + n;
-        for other in [
+        let others = [
             0,
             1,
             2,
@@ -81,12 +80,16 @@ fn every_length(mutant: Mutant, counters: &mut Counters) -> Option<Failure> {
             wraps,
             usize::MAX / 512,
             usize::MAX,
-        ] {
-            damages.push((plan.clone(), Damage::Cpus(other)));
-        }
+        ];
+        all.extend(others.map(|other| (plan.clone(), Damage::Cpus(other))));
     }
+    all
+}
+
+/// Every entry on tables of wrong sizes.
+fn every_length(mutant: Mutant, counters: &mut Counters) -> Option<Failure> {
     let mut rng = Rng::for_case(0, 0);
-    damages.into_iter().find_map(|(plan, damage)| {
+    wrong_sizes().into_iter().find_map(|(plan, damage)| {
         let style = Style::random(&mut rng);
         let event = events::plausible(&mut rng, &plan.tables(), &style, &[0, 511]);
         let calls = vec![
