@@ -136,11 +136,15 @@ fn run_mutants(options: &Options) -> bool {
             .filter_map(|s| s.split(' ').next())
             .collect();
         println!(
-            "  {} {:?}: random {}, damaged {}, examples {} | {}",
+            "  {} {:?}: random {}, damaged {}{}, examples {} | {}",
             if hunt.found() { "found" } else { "SURVIVES" },
             hunt.mutant,
             first_call(&hunt.random),
             first_call(&hunt.damaged),
+            match &hunt.sweep {
+                None => String::new(),
+                some => format!(", sweep {}", first_call(some)),
+            },
             if examples.is_empty() {
                 String::from("-")
             } else {

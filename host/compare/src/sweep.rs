@@ -48,15 +48,15 @@ fn machine() -> Plan {
     }
 }
 
-/// Each table of each wrong length, and each wrong N, with every entry: nothing is left to chance here.
-fn every_length(mutant: Mutant, counters: &mut Counters) -> Option<Failure> {
-    let mut damages = Vec::new();
+/// Each table of each wrong length, and each wrong N, also such that 512 times it wraps around.
+fn wrong_sizes() -> Vec<(Plan, Damage)> {
+    let mut all = Vec::new();
     for n in [1, 2, 3, 63, 64] {
         let plan = Plan::empty(n);
         let good = plan.tables();
         for table in 0..COUNT {
             let right = len(&good, table);
-            for len in [
+            let others = [
                 0,
                 1,
                 right - 1,
@@ -64,12 +64,11 @@ fn every_length(mutant: Mutant, counters: &mut Counters) -> Option<Failure> {
                 right / 2,
                 2 * right,
                 right + 512,
-            ] {
-                damages.push((plan.clone(), Damage::Resize { table, len }));
-            }
+            ];
+            all.extend(others.map(|len| (plan.clone(), Damage::Resize { table, len })));
         }
         let wraps = (1usize << (usize::BITS - 9)) + n;
-        for other in [
+        let others = [
             0,
             1,
             2,
@@ -81,12 +80,16 @@ fn every_length(mutant: Mutant, counters: &mut Counters) -> Option<Failure> {
             wraps,
             usize::MAX / 512,
             usize::MAX,
-        ] {
-            damages.push((plan.clone(), Damage::Cpus(other)));
-        }
+        ];
+        all.extend(others.map(|other| (plan.clone(), Damage::Cpus(other))));
     }
+    all
+}
+
+/// Every entry on tables of wrong sizes.
+fn every_length(mutant: Mutant, counters: &mut Counters) -> Option<Failure> {
     let mut rng = Rng::for_case(0, 0);
-    damages.into_iter().find_map(|(plan, damage)| {
+    wrong_sizes().into_iter().find_map(|(plan, damage)| {
         let style = Style::random(&mut rng);
         let event = events::plausible(&mut rng, &plan.tables(), &style, &[0, 511]);
         let calls = vec![
@@ -104,7 +107,17 @@ fn every_length(mutant: Mutant, counters: &mut Counters) -> Option<Failure> {
     })
 }
 
-/// Each number of each table changed to others, near and far.
+/// Numbers near an old one and far from it. In tables of 64-bit words, also each of the bits at some limits.
+fn others(table: usize, old: u64) -> Vec<u64> {
+    let mut all = vec![old.wrapping_add(1), old.wrapping_sub(1), old ^ 128];
+    all.extend([0, 1, 2, 3, 100, 512, u64::MAX]);
+    if [5, 10, 12].contains(&table) {
+        all.extend([0, 2, 3, 37, 38, 63].map(|bit| old ^ (1 << bit)));
+    }
+    all
+}
+
+/// Each number of each table changed to others.
 fn every_place(mutant: Mutant, counters: &mut Counters) -> Option<Failure> {
     let good = machine().tables();
     let calls = vec![
@@ -115,8 +128,7 @@ fn every_place(mutant: Mutant, counters: &mut Counters) -> Option<Failure> {
     for table in 0..COUNT {
         for index in 0..len(&good, table) {
             let old = get(&good, table, index);
-            let near = [old.wrapping_add(1), old.wrapping_sub(1), old ^ 128];
-            for value in near.into_iter().chain([0, 1, 2, 3, 100, 512, u64::MAX]) {
+            for value in others(table, old) {
                 let case = Case {
                     plan: machine(),
                     damage: vec![Damage::Set {
