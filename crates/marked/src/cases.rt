@@ -1,4 +1,4 @@
-// Cases beyond the marked examples: the longest chain, the other refusals, tables that are damaged.
+// Cases beyond the marked examples: the longest chain, the order of movers, the other refusals, tables that are damaged.
 use super::print;
 use super::tables::Tables;
 
@@ -14,6 +14,23 @@ pub fn chain() {
         c += 1;
     }
     t.add(63, 99, 1).wake(63);
+}
+
+// Tasks 2 and 3 wait on two CPUs when CPU 2 falls idle: the higher one moves, and the lower one then stays.
+pub fn two_wait() {
+    print::text(b"Two wait\n");
+    Tables::fresh(3)
+        .add(0, 50, 1)
+        .add(1, 45, 2)
+        .add(2, 40, 5)
+        .add(3, 30, 6)
+        .add(4, 60, 4)
+        .wake(4)
+        .wake(0)
+        .wake(1)
+        .wake(2)
+        .wake(3)
+        .sleep(4);
 }
 
 // Kinds 0 and 10, policies 0 and 3, and with N 63 the masks of CPUs 62 and 63.

@@ -38,6 +38,7 @@ fn main() {
         .priority(0, 30);
     k12();
     cases::chain();
+    cases::two_wait();
     cases::refusals();
     cases::damaged();
     cases::yield_and_remove();
