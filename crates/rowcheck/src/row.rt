@@ -87,20 +87,19 @@ fn stands(c: usize, task: usize, bound: u8, state: &[u8], prio: &[u8], cpu: &[u8
     (state[task] == RUNNABLE) & ((cpu[task] as usize) == c) & (prio[task] <= bound)
 }
 
-// Whether the places from `count` on hold nothing.
+// Whether the places from `count` on hold nothing. It looks at all of them, several at a time, and decides after.
 fn unused(row: &[u16], count: usize) -> bool
     requires { ⌜ length (now row) ≡ taskPlaces ⌝ }
     requires { ⌜ count ≤ taskPlaces ⌝ }
     ensures { λ b. ⌜ Says b (Unused (now (row .entry)) count) ⌝ }
 {
+    let mut all = true;
     let mut i = count;
     while i < PLACES {
-        if row[i] != NOTHING {
-            return false;
-        }
+        all = all & (row[i] == NOTHING);
         i += 1;
     }
-    true
+    all
 }
 
 // Whether a CPU's level is its first task's or, for an empty row, its flag.
