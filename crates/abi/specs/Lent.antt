@@ -1,31 +1,15 @@
 -- The entries over a record that is lent as four tables: those of the rules, and refused with 1 if one of the four has another length.
 -- Assumes nothing.
-use mathlib.Core.Bool.{Bool, cond, _&&_}
-use mathlib.Core.List.{List}
+use mathlib.Core.Bool.{cond}
 use Prim.Native.Nat.{ℕ}
-use lib.Dec.{eqb}
-use lib.ListN.{length}
-use Rattle.cpupri.specs.Level.{levelCount, cpuPlaces}
 use Rattle.cpupri.specs.Found as finder
-use Rattle.cpupri.specs.declared.record.Record.{Record}
+use Rattle.levels.specs.declared.record.Record.{Record}
 use Rattle.rules.specs.Entry as entry
 use Rattle.rules.specs.Events.{Event}
 use Rattle.rules.specs.Refusals.{badSize}
 use Rattle.rules.specs.Tables.{Tables}
-
--- two words of level bits
-abbrev pub wordCount : ℕ
-wordCount = 2
-
-abbrev pub lentRecord : List ℕ → List ℕ → List ℕ → List ℕ → Record
-lentRecord masks counts words levels = record { masks = masks; counts = counts; words = words; levels = levels }
-
--- tables of these lengths can hold a record
-unfoldable pub recordFits : ℕ → ℕ → ℕ → ℕ → Bool
-recordFits masks counts words levels = eqb masks levelCount && eqb counts levelCount && eqb words wordCount && eqb levels cpuPlaces
-
-abbrev pub fits : Record → Bool
-fits r = recordFits (length (r .masks)) (length (r .counts)) (length (r .words)) (length (r .levels))
+pub use Rattle.lentrecord.specs.Lent.{lentRecord, fits}
+unfoldable pub use Rattle.lentrecord.specs.Lent.{recordFits}
 
 -- ---- what an entry hands back, put together
 

@@ -8,13 +8,10 @@ ghost use Rattle.rules.specs.Tables.{machineOf};
 ghost use Rattle.abi.specs.Lent.{lentRecord, result, made, checked, handled, found, answer};
 use cpupri::find::Found;
 use cpupri::level::Level;
-use record::lengths_fit;
-use record::read;
-use record::write;
+use lentrecord::lengths_fit;
+use lentrecord::read;
+use lentrecord::write;
 use rules::answer::BAD_SIZE;
-
-mod copy;
-pub mod record;
 
 // A fresh machine of n CPUs, whatever the tables held: 0, or 1 if n or a length does not fit.
 #[no_mangle]

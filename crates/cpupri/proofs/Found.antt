@@ -15,12 +15,12 @@ use Rattle.bits.specs.Bit.{bit, lowest}
 use Rattle.bits.proofs.Tests.{and-left, and-right, and-both}
 use Rattle.bits.proofs.Word.{bit-and, bit-of-zero}
 use Rattle.bits.proofs.Search.{first-holds, first-at-most, lowest-bit, lowest-lt, lowest-at-most}
-use Rattle.cpupri.specs.Level.{levelCount, cpuPlaces}
-use Rattle.cpupri.specs.Record.{masksOf}
+use Rattle.levels.specs.Level.{levelCount, cpuPlaces}
+use Rattle.levels.specs.Record.{masksOf}
 use Rattle.cpupri.specs.Found.{allowedAt, anyAt, lowestLevel, lowestFound}
 use Rattle.cpupri.specs.declared.find.Found.the-variants.{Cpus, Nothing}
-use Rattle.cpupri.proofs.Moved.{mask-at}
-use Rattle.cpupri.proofs.Agrees.{mask-bit}
+use Rattle.levels.proofs.Moved.{mask-at}
+use Rattle.consistency.proofs.Agrees.{mask-bit}
 
 -- Of the CPUs of a mask, d is one of the lowest level, and of those the lowest-numbered.
 pub record LowestCpu (levels : List ℕ) (mask d : ℕ) : Type 0 where

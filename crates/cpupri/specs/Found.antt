@@ -7,11 +7,11 @@ use lib.Bits.{bitAnd}
 use lib.Dec.{eqb, ltb, leb}
 use lib.ListN.{getD}
 use Rattle.bits.specs.Bit.{first}
-use Rattle.cpupri.specs.Level.{levelCount, cpuPlaces, invalid}
-use Rattle.cpupri.specs.Consistent.{consistent}
+use Rattle.levels.specs.Level.{levelCount, cpuPlaces, invalid}
+use Rattle.consistency.specs.Consistent.{consistent}
 use Rattle.cpupri.specs.declared.find.Found.{Found}
 use Rattle.cpupri.specs.declared.find.Found.the-variants.{Cpus, Nothing, Refused}
-use Rattle.cpupri.specs.declared.record.Record.{Record}
+use Rattle.levels.specs.declared.record.Record.{Record}
 
 -- One check of an entry: whether it fails, and the number of the refusal then.
 pub record Check : Type 0 where

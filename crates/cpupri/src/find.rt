@@ -2,12 +2,12 @@
 // CPU. It reads one mask a level.
 ghost use mathlib.Core.Path.{_≡_};
 ghost use Prim.Native.Nat.{_≤_};
-ghost use Rattle.cpupri.specs.Level.{levelCount, cpuPlaces};
+ghost use Rattle.levels.specs.Level.{levelCount, cpuPlaces};
 ghost use Rattle.cpupri.specs.Found.{maskFits, answerOf, lowestFound, found};
-use super::consistent::is_consistent;
-use super::record::CPUS;
-use super::record::LEVELS;
-use super::record::Record;
+use consistency::is_consistent;
+use levels::record::CPUS;
+use levels::record::LEVELS;
+use levels::record::Record;
 
 // What the finder answers.
 pub enum Found {

@@ -11,7 +11,7 @@ use lib.ListN.{set}
 use borrow.Author.Tests.{eq-eqb, ne-eqb}
 use Rattle.bits.specs.Bit.{bit, lowest}
 use Rattle.cpupri.specs.Record.{recordOf}
-use Rattle.cpupri.specs.declared.record.Record.{Record}
+use Rattle.levels.specs.declared.record.Record.{Record}
 use Rattle.rules.specs.Lists.{In}
 use Rattle.rules.specs.Machine.{Machine, Task, Column, taskOf, row, levels, store, enqueue, dequeue, lowestAllowed, asleep, runnable, cpuPlaces, highestPriority}
 use Rattle.rules.specs.WellFormed.{WellFormed, Fit}

@@ -12,7 +12,7 @@ use lib.Dec.{ltb}
 use lib.ListN.{length, getD, set, length-set}
 use borrow.Author.Tests.{eq-eqb, ltb-false}
 use Rattle.cpupri.specs.Record.{recordOf}
-use Rattle.cpupri.specs.declared.record.Record.{Record}
+use Rattle.levels.specs.declared.record.Record.{Record}
 use Rattle.rules.specs.Lists.{In, Falling, delete, insertBefore}
 use Rattle.rules.specs.Machine.{Machine, taskOf, prioOf, row, flag, level, levels, rowLevel, levelOf, queued, dequeue, requeue, runnable, taskPlaces}
 use Rattle.rules.specs.Tables.{flatOf, rowCounts}

@@ -1,7 +1,7 @@
 -- What an event hands back, put together for comparison with the rules.
 -- Assumes nothing.
 use Prim.Native.Nat.{ℕ}
-use Rattle.cpupri.specs.declared.record.Record.{Record}
+use Rattle.levels.specs.declared.record.Record.{Record}
 use Rattle.rules.specs.Entry.{Result}
 use Rattle.rules.specs.Tables.{Tables}
 

@@ -4,8 +4,8 @@ ghost use mathlib.Core.Path.{_≡_};
 ghost use Rattle.checker.specs.Lent.{lent};
 ghost use Rattle.rules.specs.Events.{event as numbers};
 ghost use Rattle.abi.specs.Lent.{lentRecord, result, checked, handled};
-use abi::record::read;
-use abi::record::write;
+use lentrecord::read;
+use lentrecord::write;
 
 // One event on tables that pass the check, and pass it again afterwards: 0 with the number of moves, or a refusal,
 // 3 to 9, with 0 moves, which changes nothing.

@@ -53,6 +53,12 @@ pub fn damaged() {
         .wake(0)
         .wake(1)
         .check();
+    damaged_columns(whole);
+    damaged_queues(whole);
+}
+
+// W1, W2 and the flag of W3.
+fn damaged_columns(whole: Tables) {
     let mut t = whole;
     t.state[5] = 3;
     t.check();
@@ -62,7 +68,11 @@ pub fn damaged() {
     t = whole;
     t.flags[0] = 2;
     t.check();
-    t = whole;
+}
+
+// W4 to W6.
+fn damaged_queues(whole: Tables) {
+    let mut t = whole;
     t.cpu[0] = 1;
     t.check();
     t = whole;

@@ -11,31 +11,9 @@ fn main() {
     Tables::fresh(1).add(0, 50, 1).wake(0);
     k2_to_k4();
     k5_and_k6();
-    print::text(b"K7\n");
-    Tables::fresh(2)
-        .add(0, 60, 1)
-        .add(1, 50, 1)
-        .add(2, 40, 3)
-        .wake(0)
-        .wake(1)
-        .wake(2);
-    print::text(b"K8\n");
-    k2().allow(0, 2);
+    k7_and_k8();
     k9();
-    print::text(b"K10\n");
-    Tables::fresh(3)
-        .ordinary(1, 1)
-        .add(0, 50, 7)
-        .add(1, 40, 7)
-        .wake(0)
-        .wake(1);
-    print::text(b"K11\n");
-    Tables::fresh(1)
-        .add(0, 50, 1)
-        .add(1, 30, 1)
-        .wake(0)
-        .wake(1)
-        .priority(0, 30);
+    k10_and_k11();
     k12();
     cases::chain();
     cases::two_wait();
@@ -71,6 +49,19 @@ fn k5_and_k6() {
     chain.sleep(3);
 }
 
+fn k7_and_k8() {
+    print::text(b"K7\n");
+    Tables::fresh(2)
+        .add(0, 60, 1)
+        .add(1, 50, 1)
+        .add(2, 40, 3)
+        .wake(0)
+        .wake(1)
+        .wake(2);
+    print::text(b"K8\n");
+    k2().allow(0, 2);
+}
+
 // 99 ticks leave task 0 a slice of 1; one more is the example.
 fn k9() {
     print::text(b"K9\n");
@@ -85,6 +76,23 @@ fn k9() {
         ticks += 1;
     }
     t.event(7, 0, 0, 0, 0).event(7, 0, 0, 0, 0);
+}
+
+fn k10_and_k11() {
+    print::text(b"K10\n");
+    Tables::fresh(3)
+        .ordinary(1, 1)
+        .add(0, 50, 7)
+        .add(1, 40, 7)
+        .wake(0)
+        .wake(1);
+    print::text(b"K11\n");
+    Tables::fresh(1)
+        .add(0, 50, 1)
+        .add(1, 30, 1)
+        .wake(0)
+        .wake(1)
+        .priority(0, 30);
 }
 
 // Refusals, and the largest numbers that are none.

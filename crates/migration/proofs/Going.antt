@@ -10,7 +10,7 @@ use Rattle.bits.specs.Bit.{lowest}
 use Rattle.cpupri.specs.Level.{levelOf}
 use Rattle.cpupri.specs.Found.{lowestLevel, allowedAt}
 use Rattle.cpupri.specs.Record.{recordOf, masksOf}
-use Rattle.cpupri.specs.declared.record.Record.{Record}
+use Rattle.levels.specs.declared.record.Record.{Record}
 use Rattle.rules.specs.Machine.{Machine, taskOf, prioOf, levels, enqueue, dequeue, taskPlaces}
 use Rattle.rules.specs.Migration.{Move, Settled, next, settled}
 use Rattle.rules.specs.Outcome.{logNumbers, logged}

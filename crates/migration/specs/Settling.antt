@@ -5,7 +5,7 @@ use mathlib.Core.List.{List}
 use mathlib.Core.Option.{some}
 use Prim.Native.Nat.{ℕ}
 use lib.ListN.{length}
-use Rattle.cpupri.specs.declared.record.Record.{Record}
+use Rattle.levels.specs.declared.record.Record.{Record}
 use Rattle.rules.specs.Machine.{Machine}
 use Rattle.rules.specs.Migration.{Settled, next}
 use Rattle.rules.specs.Outcome.{logged}

@@ -12,7 +12,7 @@ use lib.Seq.{ext-getD, getD-set-same, getD-set-other}
 use borrow.Author.Tests.{eqb-true, eqb-false, ltb-true, ltb-false}
 use Rattle.cpupri.specs.Level.{levelCount, known}
 use Rattle.cpupri.specs.Record.{recordOf, Whole}
-use Rattle.cpupri.proofs.Whole.{level-known}
+use Rattle.levels.proofs.Whole.{level-known}
 use Rattle.rules.specs.Lists.{In}
 use Rattle.rules.specs.Machine.{Machine, prioOf, flag, level, levels, rowLevel, withRow, cpuPlaces, highestPriority}
 use Rattle.rules.proofs.Lists.{in-here}

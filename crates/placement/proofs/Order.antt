@@ -9,7 +9,7 @@ use native.Mathlib.Omega.{arith}
 use lib.Dec.{ltb}
 use lib.ListN.{length, getD, set, length-set, length-map}
 use Rattle.cpupri.specs.Record.{recordOf, Whole}
-use Rattle.cpupri.specs.declared.record.Record.{Record}
+use Rattle.levels.specs.declared.record.Record.{Record}
 use Rattle.rules.specs.Lists.{In, Falling, delete}
 use Rattle.rules.specs.Machine.{Machine, taskOf, prioOf, row, flag, levels, rowLevel, levelOf, queued, withRow, taskPlaces, highestPriority}
 use Rattle.rules.specs.Tables.{rowsOf, flatOf, rowCounts}

@@ -5,7 +5,7 @@ use mathlib.Core.List.{List}
 use Prim.Native.Nat.{ℕ, _≤_, _<_}
 use lib.ListN.{length}
 use Rattle.cpupri.specs.Record.{recordOf}
-use Rattle.cpupri.specs.declared.record.Record.{Record}
+use Rattle.levels.specs.declared.record.Record.{Record}
 use Rattle.rules.specs.Lists.{In, Falling}
 use Rattle.rules.specs.Machine.{Machine, prioOf, row, flag, levels, taskPlaces, cpuPlaces, highestPriority}
 use Rattle.rules.specs.Tables.{flatOf, rowCounts}

@@ -11,7 +11,7 @@ use lib.ListN.{length, replicate, length-map, length-replicate}
 use borrow.Author.Tests.{eqb-true, eq-eqb, not-false}
 use Rattle.bits.proofs.Tests.{and-both}
 use Rattle.cpupri.specs.Record.{recordOf, freshLevels}
-use Rattle.cpupri.specs.declared.record.Record.{Record}
+use Rattle.levels.specs.declared.record.Record.{Record}
 use Rattle.rules.specs.Machine.{Machine, Column, taskOf, row, fresh, levels, taskPlaces, cpuPlaces, runnable, rr, fullSlice}
 use Rattle.rules.specs.Machine.{allows, lowestAllowed, store, enqueue, dequeue, requeue}
 use Rattle.rules.specs.WellFormed.{Shape, WellFormed, wellFormed}

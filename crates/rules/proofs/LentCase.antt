@@ -8,7 +8,7 @@ use Rattle.bits.specs.Bit.{bit, first, tally, packed}
 use Rattle.cpupri.specs.Consistent.{levelFits, fitFrom, levelsFit, same, agrees, consistent}
 use Rattle.cpupri.specs.Found.{refusal, sizeFits, maskFits}
 use Rattle.cpupri.specs.Record.{table, maskAt, countAt, masksOf, countsOf, wordsOf, recordOf}
-use Rattle.cpupri.specs.declared.record.Record.{Record}
+use Rattle.levels.specs.declared.record.Record.{Record}
 use Rattle.rules.specs.Lists.{from, select, joined, any, each, bestFrom, best, insertBefore, delete}
 use Rattle.rules.specs.Machine.{taskPlaces, invalid}
 use Rattle.rules.specs.WellFormed.{gathered, falls}

@@ -13,7 +13,7 @@ use borrow.Author.Tests.{ltb-true, ltb-false}
 use lib.ListN.{length, getD, drop, length-map, List·getD-map}
 use lib.Seq.{getD-take, getD-drop}
 use Rattle.bits.specs.Bit.{bit}
-use Rattle.cpupri.specs.declared.record.Record.{Record}
+use Rattle.levels.specs.declared.record.Record.{Record}
 use Rattle.rules.specs.Lists.{occ, In, place}
 use Rattle.rules.specs.Machine.{Machine, taskOf, prioOf, row, head, running, taskPlaces, runnable}
 use Rattle.rules.specs.Events.{Event, effect}

@@ -15,9 +15,9 @@ use Rattle.bits.proofs.Tests.{and-both}
 use Rattle.cpupri.specs.Level.{levelCount, unused}
 use Rattle.cpupri.specs.Record.{recordOf, Whole, freshLevels}
 use Rattle.cpupri.specs.Consistent.{consistent, levelsFit, levelFits, agrees, same}
-use Rattle.cpupri.specs.declared.record.Record.{Record}
-use Rattle.cpupri.proofs.Agrees.{same-is, same-refl, agrees-of, fit-all, below-fits, above-fits, consistent-whole}
-use Rattle.cpupri.proofs.Fresh.{length-fresh, fresh-below, fresh-above}
+use Rattle.levels.specs.declared.record.Record.{Record}
+use Rattle.consistency.proofs.Agrees.{same-is, same-refl, agrees-of, fit-all, below-fits, above-fits, consistent-whole}
+use Rattle.levels.proofs.Fresh.{length-fresh, fresh-below, fresh-above}
 use Rattle.rules.specs.Lists.{In, from, below}
 use Rattle.rules.specs.Machine.{Machine, taskOf, prioOf, row, flag, rowLevel, level, levels, invalid, cpuPlaces, highestPriority, lowestPriority, fresh}
 use Rattle.rules.specs.WellFormed.{WellFormed, Fit}

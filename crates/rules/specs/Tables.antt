@@ -8,7 +8,7 @@ use lib.Dec.{eqb, ltb}
 use lib.ListN.{length, getD, take, drop, replicate}
 use Rattle.cpupri.specs.Consistent.{consistent, same}
 use Rattle.cpupri.specs.Found.{sizeFits}
-use Rattle.cpupri.specs.declared.record.Record.{Record}
+use Rattle.levels.specs.declared.record.Record.{Record}
 use Rattle.rules.specs.Lists.{joined}
 use Rattle.rules.specs.Machine.{Machine, taskPlaces, levels}
 use Rattle.rules.specs.WellFormed.{wellFormed}

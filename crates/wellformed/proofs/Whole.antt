@@ -14,8 +14,8 @@ use borrow.Author.Tests.{eqb-true, eq-eqb, le-leb, ltb-true, ltb-false, lt-ltb, 
 use Rattle.bits.specs.Bit.{bit, digit}
 use Rattle.bits.proofs.Tests.{and-both}
 use Rattle.cpupri.specs.Consistent.{consistent, levelsFit, agrees, same}
-use Rattle.cpupri.specs.declared.record.Record.{Record}
-use Rattle.cpupri.proofs.Agrees.{same-is, is-same, fit-at, fits-above}
+use Rattle.levels.specs.declared.record.Record.{Record}
+use Rattle.consistency.proofs.Agrees.{same-is, is-same, fit-at, fits-above}
 use Rattle.rules.specs.Lists.{occ, In, each}
 use Rattle.rules.specs.Machine.{Machine, Task, taskOf, freeTask, prioOf, row, flag, rowLevel, levels, free, asleep, runnable, taskPlaces, cpuPlaces, highestPriority}
 use Rattle.rules.specs.WellFormed.{Shape, Fit, WellFormed, standing, zeros, fits, soundTask, soundRow, falls, tasks, wellFormed}

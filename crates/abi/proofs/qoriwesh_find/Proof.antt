@@ -12,7 +12,10 @@ lengths-fit-requires : tie.Need-lengths-fit-requires
 lengths-fit-requires c κs = search needs
 
 returns : tie.Need-returns
-returns c = found-unfit (c .before .before .before .before .before .before .args .n) (lentRecord (c .before .before .before .before .before .before .args .level-masks .now) (c .before .before .before .before .before .before .args .level-counts .now) (c .before .before .before .before .before .before .args .level-words .now) (c .before .before .before .before .before .before .args .levels .now)) (c .before .before .before .before .before .before .args .level) (c .before .before .before .before .before .before .args .mask) (sym (c .before .lengths-fit .ensures) ∙ not-true (c .before .lengths-fit .result) (c .if1 .taken))
+returns c =
+    let x = c .before .before .before .before .before .before .args in
+    let f = c .before .lengths-fit in
+    found-unfit (x .n) (lentRecord (x .level-masks .now) (x .level-counts .now) (x .level-words .now) (x .levels .now)) (x .level) (x .mask) (sym (f .ensures) ∙ not-true (f .result) (c .if1 .taken))
 
 read-requires : tie.Need-read-requires
 read-requires c κs = (sym (c .before .lengths-fit .ensures) ∙ not-false (c .before .lengths-fit .result) (c .if1 .left))
@@ -30,13 +33,25 @@ enum-known-number : tie.Need-enum-known-number
 enum-known-number c = search needs
 
 returns-2 : tie.Need-returns-2
-returns-2 c = found-fit (c .before .before .before .before .before .before .before .before .before .before .before .args .n) (lentRecord (c .before .before .before .before .before .before .before .before .before .before .before .args .level-masks .now) (c .before .before .before .before .before .before .before .before .before .before .before .args .level-counts .now) (c .before .before .before .before .before .before .before .before .before .before .before .args .level-words .now) (c .before .before .before .before .before .before .before .before .before .before .before .args .levels .now)) (c .before .before .before .before .read .result) (c .before .before .before .before .before .before .before .before .before .before .before .args .level) (c .before .before .before .before .before .before .before .before .before .before .before .args .mask) (answer 0 (c .before .l .given .0 .0) (c .before .l .given .0 .1 .0)) (sym (c .before .before .before .before .before .before .lengths-fit .ensures) ∙ not-false (c .before .before .before .before .before .before .lengths-fit .result) (c .before .before .before .before .before .if1 .left)) (c .before .before .before .before .read .ensures) (sym (ap answerOf (c .before .l .given .1)) ∙ c .before .before .before .find .ensures)
+returns-2 c =
+    let x = c .before .before .before .before .before .before .before .before .before .before .before .args in
+    let g = c .before .before .before .before .read in
+    let f = c .before .before .before .before .before .before .lengths-fit in
+    found-fit (x .n) (lentRecord (x .level-masks .now) (x .level-counts .now) (x .level-words .now) (x .levels .now)) (g .result) (x .level) (x .mask) (answer 0 (c .before .l .given .0 .0) (c .before .l .given .0 .1 .0)) (sym (f .ensures) ∙ not-false (f .result) (c .before .before .before .before .before .if1 .left)) (g .ensures) (sym (ap answerOf (c .before .l .given .1)) ∙ c .before .before .before .find .ensures)
 
 returns-3 : tie.Need-returns-3
-returns-3 c = found-fit (c .before .before .before .before .before .before .before .before .before .before .args .n) (lentRecord (c .before .before .before .before .before .before .before .before .before .before .args .level-masks .now) (c .before .before .before .before .before .before .before .before .before .before .args .level-counts .now) (c .before .before .before .before .before .before .before .before .before .before .args .level-words .now) (c .before .before .before .before .before .before .before .before .before .before .args .levels .now)) (c .before .before .before .read .result) (c .before .before .before .before .before .before .before .before .before .before .args .level) (c .before .before .before .before .before .before .before .before .before .before .args .mask) (answer 0 255 0) (sym (c .before .before .before .before .before .lengths-fit .ensures) ∙ not-false (c .before .before .before .before .before .lengths-fit .result) (c .before .before .before .before .if1 .left)) (c .before .before .before .read .ensures) (sym (ap answerOf (c .enum-told .given .1)) ∙ c .before .before .find .ensures)
+returns-3 c =
+    let x = c .before .before .before .before .before .before .before .before .before .before .args in
+    let g = c .before .before .before .read in
+    let f = c .before .before .before .before .before .lengths-fit in
+    found-fit (x .n) (lentRecord (x .level-masks .now) (x .level-counts .now) (x .level-words .now) (x .levels .now)) (g .result) (x .level) (x .mask) (answer 0 255 0) (sym (f .ensures) ∙ not-false (f .result) (c .before .before .before .before .if1 .left)) (g .ensures) (sym (ap answerOf (c .enum-told .given .1)) ∙ c .before .before .find .ensures)
 
 returns-4 : tie.Need-returns-4
-returns-4 c = found-fit (c .before .before .before .before .before .before .before .before .before .before .before .args .n) (lentRecord (c .before .before .before .before .before .before .before .before .before .before .before .args .level-masks .now) (c .before .before .before .before .before .before .before .before .before .before .before .args .level-counts .now) (c .before .before .before .before .before .before .before .before .before .before .before .args .level-words .now) (c .before .before .before .before .before .before .before .before .before .before .before .args .levels .now)) (c .before .before .before .before .read .result) (c .before .before .before .before .before .before .before .before .before .before .before .args .level) (c .before .before .before .before .before .before .before .before .before .before .before .args .mask) (answer (c .before .number .given .0 .0) 255 0) (sym (c .before .before .before .before .before .before .lengths-fit .ensures) ∙ not-false (c .before .before .before .before .before .before .lengths-fit .result) (c .before .before .before .before .before .if1 .left)) (c .before .before .before .before .read .ensures) (sym (ap answerOf (c .before .number .given .1)) ∙ c .before .before .before .find .ensures)
+returns-4 c =
+    let x = c .before .before .before .before .before .before .before .before .before .before .before .args in
+    let g = c .before .before .before .before .read in
+    let f = c .before .before .before .before .before .before .lengths-fit in
+    found-fit (x .n) (lentRecord (x .level-masks .now) (x .level-counts .now) (x .level-words .now) (x .levels .now)) (g .result) (x .level) (x .mask) (answer (c .before .number .given .0 .0) 255 0) (sym (f .ensures) ∙ not-false (f .result) (c .before .before .before .before .before .if1 .left)) (g .ensures) (sym (ap answerOf (c .before .number .given .1)) ∙ c .before .before .before .find .ensures)
 
 pub qoriwesh-find-spec : {M : Type 1} → statement M
 qoriwesh-find-spec =

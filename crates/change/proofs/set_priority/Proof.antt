@@ -6,7 +6,7 @@ use mathlib.Core.List.{List}
 use Prim.Native.Nat.{ℕ}
 use native.Mathlib.Omega.{arith}
 use lib.ListN.{length, getD, set}
-use Rattle.cpupri.specs.declared.record.Record.{Record}
+use Rattle.levels.specs.declared.record.Record.{Record}
 use Rattle.rules.specs.Machine.{Machine, Column, taskOf, store, dequeue, runnable}
 use Rattle.rules.specs.Events.{set-priority}
 use Rattle.rules.specs.Refusals.{firstFailing, checks}

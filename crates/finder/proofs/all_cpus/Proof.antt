@@ -4,8 +4,8 @@ use mathlib.Core.Path.{subst⁻¹}
 use Prim.Native.Nat.{_-_, _≤_}
 use native.Mathlib.Omega.{arith}
 use Rattle.cpupri.specs.Record.{Whole}
-use Rattle.cpupri.proofs.Fresh.{fresh-whole}
-use Rattle.cpupri.proofs.Whole.{whole-set, level-known}
+use Rattle.levels.proofs.Fresh.{fresh-whole}
+use Rattle.levels.proofs.Whole.{whole-set, level-known}
 use Rattle.finder.proofs.all_cpus.Statement.{statement}
 use Rattle.finder.proofs.all_cpus.Tie as tie
 

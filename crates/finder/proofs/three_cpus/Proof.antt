@@ -3,8 +3,8 @@ use borrow.Author.Needs.{needs}
 use mathlib.Core.Path.{refl, subst⁻¹}
 use Rattle.cpupri.specs.Level.{known}
 use Rattle.cpupri.specs.Record.{Whole}
-use Rattle.cpupri.proofs.Fresh.{fresh-whole}
-use Rattle.cpupri.proofs.Whole.{whole-set, level-known}
+use Rattle.levels.proofs.Fresh.{fresh-whole}
+use Rattle.levels.proofs.Whole.{whole-set, level-known}
 use native.Mathlib.Omega.{arith}
 use Rattle.finder.proofs.three_cpus.Statement.{statement}
 use Rattle.finder.proofs.three_cpus.Tie as tie

@@ -9,8 +9,8 @@ use lib.Dec.{ltb}
 use lib.ListN.{length, getD, set}
 use Rattle.cpupri.specs.Level.{known}
 use Rattle.cpupri.specs.Record.{recordOf}
-use Rattle.cpupri.specs.declared.record.Record.{Record}
-use Rattle.cpupri.proofs.Whole.{level-known}
+use Rattle.levels.specs.declared.record.Record.{Record}
+use Rattle.levels.proofs.Whole.{level-known}
 use Rattle.rules.specs.Lists.{Falling}
 use Rattle.rules.specs.Machine.{Machine, row, prioOf, flag, levels, levelOf, rowLevel, withRow, enqueue, queued, taskPlaces, highestPriority}
 use Rattle.rules.specs.Tables.{flatOf, rowCounts}

@@ -1,6 +1,6 @@
 -- `placement::relevel` meets its contract. Assumes nothing.
 use borrow.Author.Needs.{needs}
-use Rattle.cpupri.proofs.Whole.{same-level}
+use Rattle.levels.proofs.Whole.{same-level}
 use Rattle.placement.proofs.relevel.Statement.{statement}
 use Rattle.placement.proofs.relevel.Tie as tie
 

@@ -7,7 +7,7 @@ use Prim.Native.Nat.{ℕ, _<_}
 use native.Mathlib.Omega.{arith}
 use lib.ListN.{length, getD, set}
 use Rattle.bits.specs.Bit.{bit, lowest}
-use Rattle.cpupri.specs.declared.record.Record.{Record}
+use Rattle.levels.specs.declared.record.Record.{Record}
 use Rattle.rules.specs.Machine.{Machine, asleep, cpuPlaces}
 use Rattle.rules.specs.Events.{wake, wakeCpu}
 use Rattle.rules.specs.Refusals.{firstFailing}

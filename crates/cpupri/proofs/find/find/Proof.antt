@@ -6,10 +6,10 @@ use Prim.Native.Nat.{ℕ}
 use lib.Dec.{leb}
 use borrow.Author.Tests.{not-true, not-false, le-leb, lt-leb, leb-true}
 use Rattle.bits.proofs.Tests.{and-right}
-use Rattle.cpupri.specs.Level.{levelCount}
-use Rattle.cpupri.specs.Consistent.{consistent}
+use Rattle.levels.specs.Level.{levelCount}
+use Rattle.consistency.specs.Consistent.{consistent}
 use Rattle.cpupri.specs.Found.{Answer, unless, refusal, sizeFits, maskFits, findChecks, answerOf, lowestFound, found}
-use Rattle.cpupri.specs.declared.record.Record.{Record}
+use Rattle.levels.specs.declared.record.Record.{Record}
 use Rattle.cpupri.proofs.find.find.Statement.{statement}
 use Rattle.cpupri.proofs.find.find.Tie as tie
 

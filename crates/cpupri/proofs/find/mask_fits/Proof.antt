@@ -8,7 +8,7 @@ use lib.Dec.{eqb, ltb}
 use lib.Pow.{pow-pos}
 use borrow.Author.Tests.{eq-eqb, ne-eqb, lt-ltb, ltb-true, ltb-false}
 use Rattle.cpupri.specs.Found.{maskFits}
-use Rattle.cpupri.proofs.Whole.{active-is}
+use Rattle.levels.proofs.Whole.{active-is}
 use Rattle.cpupri.proofs.find.mask_fits.Statement.{statement}
 use Rattle.cpupri.proofs.find.mask_fits.Tie as tie
 

@@ -5,7 +5,7 @@ use mathlib.Core.List.{List}
 use Prim.Native.Nat.{ℕ, _<_}
 use native.Mathlib.Omega.{arith}
 use Rattle.cpupri.specs.Record.{recordOf}
-use Rattle.cpupri.specs.declared.record.Record.{Record}
+use Rattle.levels.specs.declared.record.Record.{Record}
 use Rattle.rules.specs.Lists.{In, delete}
 use Rattle.rules.specs.Machine.{Machine, row, levels, dequeue}
 use Rattle.rules.specs.Migration.{Move, Chosen}

@@ -6,8 +6,8 @@ use Prim.Native.Nat.{ℕ, _<_}
 use native.Mathlib.Omega.{arith}
 use lib.ListN.{length, getD, set, length-map}
 use Rattle.cpupri.specs.Record.{recordOf, Whole}
-use Rattle.cpupri.specs.declared.record.Record.{Record}
-use Rattle.cpupri.proofs.Whole.{level-known}
+use Rattle.levels.specs.declared.record.Record.{Record}
+use Rattle.levels.proofs.Whole.{level-known}
 use Rattle.rules.specs.Machine.{Machine, row, levels}
 use Rattle.rules.specs.Events.{set-ordinary}
 use Rattle.rules.proofs.Record.{level-range}

@@ -1,0 +1,332 @@
+-- What the consistency test means: it passes exactly if masks, counts, words and levels say the same and the levels are those of n CPUs.
+-- Assumes nothing.
+use mathlib.Core.Path.{_≡_, refl, sym, ap, ap₂, _∙_, subst}
+use mathlib.Core.Bool.{Bool, true, false, cond, not, _&&_, Bool·beq, false≢true}
+use mathlib.Core.Logic.{_≢_}
+use mathlib.Core.List.{List, [], _∷_, _++_}
+use Prim.Native.Nat.{ℕ, zero, suc, _+_, _/_, _%_, _^_, _≤_, _<_, suc-le-suc}
+use native.Mathlib.Nat.{not-suc-le-zero, le-of-suc-le-suc, zero-lt-suc, add-suc, suc-add, zero-add, add-zero}
+use native.Mathlib.Omega.{arith}
+use lib.Dec.{eqb, ltb}
+use lib.ListN.{length, getD, set, take, List·getD-eq-default}
+use lib.Seq.{ext-getD, take-suc, length-take-le}
+use borrow.Author.Tests.{eqb-true, eqb-false, eq-eqb, ne-eqb, ltb-true, ltb-false, lt-ltb, le-ltb, not-true}
+use Rattle.bits.specs.Bit.{bit, withBit, putBit, weight}
+use Rattle.bits.proofs.Word.{word-ext, bit-above, put-same}
+use Rattle.bits.proofs.Tests.{and-left, and-right, and-both}
+use Rattle.bits.proofs.Packed.{bit-packed, packed-lt, packed-snoc, weight-packed}
+use Rattle.levels.specs.Level.{levelCount, cpuPlaces, unused, invalid, known}
+use Rattle.levels.specs.Record.{maskAt, countAt, masksOf, countsOf, active, wordsOf, recordOf, Whole}
+use Rattle.consistency.specs.Consistent.{levelFits, fitFrom, levelsFit, same, agrees, consistent, joined, Sized, Consistent}
+use Rattle.levels.specs.declared.record.Record.{Record}
+use Rattle.levels.proofs.Table.{table-cong, table-set}
+use Rattle.levels.proofs.Moved.{length-masks, length-counts, mask-at, count-at}
+use Rattle.levels.proofs.Whole.{record-ext, level-known}
+use Rattle.consistency.proofs.Words.{words-bit, words-ext, word-one-lt}
+
+-- ---- `same`
+
+pub same-is : (xs ys : List ℕ) → same xs ys ≡ true → xs ≡ ys
+unfolding same
+same-is [] [] e = refl
+same-is [] (y ∷ ys) e = absurd (false≢true e)
+same-is (x ∷ xs) [] e = absurd (false≢true e)
+same-is (x ∷ xs) (y ∷ ys) e =
+    ap₂ (λ (z : ℕ) (zs : List ℕ). z ∷ zs) (eqb-true x y (and-left (eqb x y) (same xs ys) e)) (same-is xs ys (and-right (eqb x y) (same xs ys) e))
+
+pub same-refl : (xs : List ℕ) → same xs xs ≡ true
+unfolding same
+same-refl [] = refl
+same-refl (x ∷ xs) = and-both (eqb x x) (same xs xs) (eq-eqb x x refl) (same-refl xs)
+
+pub is-same : (xs ys : List ℕ) → xs ≡ ys → same xs ys ≡ true
+is-same xs ys e = ap (same xs) (sym e) ∙ same-refl xs
+
+-- ---- `agrees`
+
+module _ (r : Record) where
+  abbrev the-masks : Bool
+  the-masks = same (r .masks) (masksOf (r .levels))
+
+  abbrev the-counts : Bool
+  the-counts = same (r .counts) (countsOf (r .levels))
+
+  abbrev the-words : Bool
+  the-words = same (r .words) (wordsOf (countsOf (r .levels)))
+
+  pub agrees-of : r .masks ≡ masksOf (r .levels) → r .counts ≡ countsOf (r .levels) → r .words ≡ wordsOf (countsOf (r .levels)) → agrees r ≡ true
+  unfolding agrees
+  agrees-of m c w = and-both the-masks (the-counts && the-words) (is-same _ _ m) (and-both the-counts the-words (is-same _ _ c) (is-same _ _ w))
+
+  pub agrees-masks : agrees r ≡ true → r .masks ≡ masksOf (r .levels)
+  unfolding agrees
+  agrees-masks e = same-is _ _ (and-left the-masks (the-counts && the-words) e)
+
+  pub agrees-counts : agrees r ≡ true → r .counts ≡ countsOf (r .levels)
+  unfolding agrees
+  agrees-counts e = same-is _ _ (and-left the-counts the-words (and-right the-masks (the-counts && the-words) e))
+
+  pub agrees-words : agrees r ≡ true → r .words ≡ wordsOf (countsOf (r .levels))
+  unfolding agrees
+  agrees-words e = same-is _ _ (and-right the-counts the-words (and-right the-masks (the-counts && the-words) e))
+
+-- ---- `levelsFit`
+
+fit-from : (n c : ℕ) (ls : List ℕ) → fitFrom n c ls ≡ true → (i : ℕ) → i < length ls → levelFits n (c + i) (getD ls i 0) ≡ true
+unfolding fitFrom
+fit-from n c [] e i h = absurd (not-suc-le-zero h)
+fit-from n c (l ∷ ls) e zero h = ap (λ (k : ℕ). levelFits n k l) (add-zero c) ∙ and-left (levelFits n c l) (fitFrom n (suc c) ls) e
+fit-from n c (l ∷ ls) e (suc i) h =
+    ap (λ (k : ℕ). levelFits n k (getD ls i 0)) (add-suc c i ∙ sym (suc-add c i))
+    ∙ fit-from n (suc c) ls (and-right (levelFits n c l) (fitFrom n (suc c) ls) e) i (le-of-suc-le-suc h)
+
+from-fit : (n c : ℕ) (ls : List ℕ) → ((i : ℕ) → i < length ls → levelFits n (c + i) (getD ls i 0) ≡ true) → fitFrom n c ls ≡ true
+unfolding fitFrom
+from-fit n c [] h = refl
+from-fit n c (l ∷ ls) h =
+    and-both _ _ (ap (λ (k : ℕ). levelFits n k l) (sym (add-zero c)) ∙ h zero (zero-lt-suc (length ls)))
+    (from-fit n (suc c) ls (λ i hi. ap (λ (k : ℕ). levelFits n k (getD ls i 0)) (suc-add c i ∙ sym (add-suc c i)) ∙ h (suc i) (suc-le-suc hi)))
+
+pub fit-at : (n : ℕ) (ls : List ℕ) → levelsFit n ls ≡ true → (c : ℕ) → c < length ls → levelFits n c (getD ls c 0) ≡ true
+unfolding levelsFit
+fit-at n ls e c h = ap (λ (k : ℕ). levelFits n k (getD ls c 0)) (sym (zero-add c)) ∙ fit-from n 0 ls e c h
+
+pub fit-all : (n : ℕ) (ls : List ℕ) → ((c : ℕ) → c < length ls → levelFits n c (getD ls c 0) ≡ true) → levelsFit n ls ≡ true
+unfolding levelsFit
+fit-all n ls h = from-fit n 0 ls (λ i hi. ap (λ (k : ℕ). levelFits n k (getD ls i 0)) (zero-add i) ∙ h i hi)
+
+-- what it says of one place
+pub fits-below : (n c l : ℕ) → c < n → levelFits n c l ≡ true → (l < levelCount) × (l ≢ unused)
+unfolding levelFits
+fits-below n c l h e =
+    let e′ : (ltb l levelCount && not (eqb l unused)) ≡ true = ap (λ (b : Bool). cond b (ltb l levelCount && not (eqb l unused)) (eqb l invalid)) (sym (lt-ltb c n h)) ∙ e in (
+      ltb-true l levelCount (and-left (ltb l levelCount) (not (eqb l unused)) e′),
+      eqb-false l unused (not-true (eqb l unused) (and-right (ltb l levelCount) (not (eqb l unused)) e′)),
+    )
+
+pub fits-above : (n c l : ℕ) → n ≤ c → levelFits n c l ≡ true → l ≡ invalid
+unfolding levelFits
+fits-above n c l h e = eqb-true l invalid (ap (λ (b : Bool). cond b (ltb l levelCount && not (eqb l unused)) (eqb l invalid)) (sym (le-ltb c n h)) ∙ e)
+
+pub below-fits : (n c l : ℕ) → c < n → l < levelCount → l ≢ unused → levelFits n c l ≡ true
+unfolding levelFits
+below-fits n c l h hl d =
+    ap (λ (b : Bool). cond b (ltb l levelCount && not (eqb l unused)) (eqb l invalid)) (lt-ltb c n h)
+    ∙ and-both _ _ (lt-ltb l levelCount hl) (ap not (ne-eqb l unused d))
+
+pub above-fits : (n c l : ℕ) → n ≤ c → l ≡ invalid → levelFits n c l ≡ true
+unfolding levelFits
+above-fits n c l h e = ap (λ (b : Bool). cond b (ltb l levelCount && not (eqb l unused)) (eqb l invalid)) (le-ltb c n h) ∙ eq-eqb l invalid e
+
+pub fits-known : (n c l : ℕ) → levelFits n c l ≡ true → known l ≡ true
+unfolding known
+fits-known n c l e = go (ltb c n) refl
+  where
+    go : (b : Bool) → ltb c n ≡ b → known l ≡ true
+    go true t = level-known l (fits-below n c l (ltb-true c n t) e .0)
+    go false t = ap known (fits-above n c l (ltb-false c n t) e)
+
+-- ---- the masks of a longer and longer list of levels
+
+-- a level that the new CPU is not at keeps its mask
+snoc-kept : (xs : List ℕ) (l k : ℕ) → (l ≡ k → ⊥) → maskAt (xs ++ (l ∷ [])) k ≡ maskAt xs k
+unfolding maskAt
+snoc-kept xs l k d =
+    let e : eqb l k ≡ false = ne-eqb l k d in
+    let free : bit (maskAt xs k) (length xs) ≡ false = bit-above (length xs) (maskAt xs k) (length xs) (packed-lt (λ (x : ℕ). eqb x k) xs) (omega arith) in
+    packed-snoc (λ (x : ℕ). eqb x k) xs l ∙ put-same (eqb l k) (maskAt xs k) (length xs) (free ∙ sym e)
+
+pub masks-snoc : (xs : List ℕ) (l : ℕ) → masksOf (xs ++ (l ∷ [])) ≡ joined (masksOf xs) (length xs) l
+unfolding masksOf maskAt joined
+masks-snoc xs l = go (ltb l levelCount) refl
+  where
+    go : (b : Bool) → ltb l levelCount ≡ b → masksOf (xs ++ (l ∷ [])) ≡ cond b (set (masksOf xs) l (withBit (getD (masksOf xs) l 0) (length xs))) (masksOf xs)
+    go true e =
+        let h : l < levelCount = ltb-true l levelCount e in
+        table-set (maskAt xs) (maskAt (xs ++ (l ∷ []))) levelCount l h (λ k hk d. snoc-kept xs l k (λ e. d (sym e)))
+        ∙ ap (set (masksOf xs) l)
+        (packed-snoc (λ (x : ℕ). eqb x l) xs l ∙ ap₂ (λ (b : Bool) (m : ℕ). putBit b m (length xs)) (eq-eqb l l refl) (sym (mask-at xs l h)))
+    go false e =
+        let h : levelCount ≤ l = ltb-false l levelCount e in
+        table-cong (maskAt xs) (maskAt (xs ++ (l ∷ []))) levelCount (λ k hk. snoc-kept xs l k (λ e. omega arith))
+
+pub masks-next : (xs : List ℕ) (c : ℕ) → c < length xs → masksOf (take (suc c) xs) ≡ joined (masksOf (take c xs)) c (getD xs c 0)
+masks-next xs c h =
+    ap masksOf (take-suc xs c 0 h) ∙ masks-snoc (take c xs) (getD xs c 0)
+    ∙ ap (λ (k : ℕ). joined (masksOf (take c xs)) k (getD xs c 0)) (length-take-le c xs (omega arith))
+
+-- ---- the meaning
+
+-- a level's count is the weight of its mask
+pub weight-mask : (xs : List ℕ) (l : ℕ) → length xs ≡ cpuPlaces → weight cpuPlaces (maskAt xs l) ≡ countAt xs l
+unfolding maskAt countAt
+weight-mask xs l len = ap (λ (k : ℕ). weight k (maskAt xs l)) (sym len) ∙ weight-packed (λ (x : ℕ). eqb x l) xs
+
+pub mask-bit : (xs : List ℕ) (l c : ℕ) → c < length xs → bit (maskAt xs l) c ≡ eqb (getD xs c 0) l
+unfolding maskAt
+mask-bit xs l c h = bit-packed (λ (x : ℕ). eqb x l) 0 xs c h
+
+mask-lt : (xs : List ℕ) (l : ℕ) → length xs ≡ cpuPlaces → maskAt xs l < 2 ^ 64
+unfolding maskAt
+mask-lt xs l len = subst (λ (k : ℕ). maskAt xs l < 2 ^ k) len (packed-lt (λ (x : ℕ). eqb x l) xs)
+
+-- past the last level no count is read
+past : (cs : List ℕ) (l : ℕ) → length cs ≡ levelCount → levelCount ≤ l → active (getD cs l 0) ≡ false
+past cs l len h = ap active (List·getD-eq-default cs 0 (omega arith))
+
+module _ (n : ℕ) (r : Record) (sized : Sized r) where
+  -- what the test says
+  pub consistent-means : consistent n r ≡ true → Consistent n r
+  unfolding consistent
+  consistent-means e = record {
+    masks = λ l c hl hc. ap (λ (ms : List ℕ). bit (getD ms l 0) c) (agrees-masks r ok) ∙ ap (λ (m : ℕ). bit m c) (mask-at (r .levels) l hl) ∙ mask-bit (r .levels) l c (place c hc);
+    counts = λ l hl. ap (λ (cs : List ℕ). getD cs l 0) (agrees-counts r ok) ∙ count-at (r .levels) l hl;
+    words = λ l hl. word-bit l (omega arith);
+    clear = λ l hl h. word-bit l h ∙ past (r .counts) l (sized .counts) hl;
+    below = λ c h hc. fits-below n c (getD (r .levels) c 0) h (fit-at n (r .levels) fit c (place c hc));
+    above = λ c h hc. fits-above n c (getD (r .levels) c 0) h (fit-at n (r .levels) fit c (place c hc));
+  }
+    where
+      fit : levelsFit n (r .levels) ≡ true
+      fit = and-left (levelsFit n (r .levels)) (agrees r) e
+
+      ok : agrees r ≡ true
+      ok = and-right (levelsFit n (r .levels)) (agrees r) e
+
+      place : (c : ℕ) → c < cpuPlaces → c < length (r .levels)
+      place c h = omega (arith, sized .levels)
+
+      word-bit : (l : ℕ) → l < 128 → bit (getD (r .words) (l / 64) 0) (l % 64) ≡ active (getD (r .counts) l 0)
+      word-bit l h =
+          ap (λ (ws : List ℕ). bit (getD ws (l / 64) 0) (l % 64)) (agrees-words r ok ∙ ap wordsOf (sym (agrees-counts r ok)))
+          ∙ words-bit (r .counts) l h
+
+  -- and nothing else does
+  pub means-consistent : Consistent n r → consistent n r ≡ true
+  unfolding consistent
+  means-consistent k = and-both (levelsFit n (r .levels)) (agrees r) (fit-all n (r .levels) fits) (agrees-of r masks counts words)
+    where
+      fits : (c : ℕ) → c < length (r .levels) → levelFits n c (getD (r .levels) c 0) ≡ true
+      fits c h = go (ltb c n) refl
+        where
+          hc : c < cpuPlaces
+          hc = omega (arith, sized .levels)
+
+          go : (b : Bool) → ltb c n ≡ b → levelFits n c (getD (r .levels) c 0) ≡ true
+          go true e = let l : c < n = ltb-true c n e in below-fits n c (getD (r .levels) c 0) l (k .below c l hc .0) (k .below c l hc .1)
+          go false e = let l : n ≤ c = ltb-false c n e in above-fits n c (getD (r .levels) c 0) l (k .above c l hc)
+
+      masks : r .masks ≡ masksOf (r .levels)
+      masks = ext-getD 0 (r .masks) (masksOf (r .levels)) (sized .masks ∙ sym (length-masks (r .levels))) (λ l h.
+          let hl : l < levelCount = omega (arith, sized .masks) in
+          word-ext 64 (getD (r .masks) l 0) (maskAt (r .levels) l) (sized .mask l) (mask-lt (r .levels) l (sized .levels))
+          (λ c hc. k .masks l c hl hc ∙ sym (mask-bit (r .levels) l c (omega (arith, sized .levels))))
+          ∙ sym (mask-at (r .levels) l hl))
+
+      counts : r .counts ≡ countsOf (r .levels)
+      counts = ext-getD 0 (r .counts) (countsOf (r .levels)) (sized .counts ∙ sym (length-counts (r .levels))) (λ l h.
+          let hl : l < levelCount = omega (arith, sized .counts) in
+          k .counts l hl ∙ sym (count-at (r .levels) l hl))
+
+      bits : (l : ℕ) → l < 128 → bit (getD (r .words) (l / 64) 0) (l % 64) ≡ active (getD (r .counts) l 0)
+      bits l h = go (ltb l levelCount) refl
+        where
+          go : (b : Bool) → ltb l levelCount ≡ b → bit (getD (r .words) (l / 64) 0) (l % 64) ≡ active (getD (r .counts) l 0)
+          go true e = k .words l (ltb-true l levelCount e)
+          go false e = let hl : levelCount ≤ l = ltb-false l levelCount e in k .clear l hl h ∙ sym (past (r .counts) l (sized .counts) hl)
+
+      words : r .words ≡ wordsOf (countsOf (r .levels))
+      words = words-ext (r .counts) (r .words) (sized .words) (sized .counts) (sized .word 0) (sized .word 1) bits ∙ ap wordsOf counts
+
+-- ---- the test as the code takes it, a level at a time
+
+abbrev pub levelTest : Record → List ℕ → ℕ → Bool
+levelTest r masks l =
+    eqb (getD (r .masks) l 0) (getD masks l 0)
+    && (eqb (getD (r .counts) l 0) (weight 64 (getD (r .masks) l 0)) && Bool·beq (bit (getD (r .words) (l / 64) 0) (l % 64)) (active (getD (r .counts) l 0)))
+
+beq-true : (a b : Bool) → Bool·beq a b ≡ true → a ≡ b
+beq-true true true e = refl
+beq-true true false e = absurd (false≢true e)
+beq-true false true e = absurd (false≢true e)
+beq-true false false e = refl
+
+beq-refl : (a : Bool) → Bool·beq a a ≡ true
+beq-refl true = refl
+beq-refl false = refl
+
+module _ (r : Record) (sized : Sized r) where
+  -- where the parts agree each level's test passes, and no bit is set past the last level
+  pub test-passes : agrees r ≡ true → (l : ℕ) → l < levelCount → levelTest r (masksOf (r .levels)) l ≡ true
+  test-passes ok l h =
+      and-both _ _ (eq-eqb _ _ mask)
+      (and-both _ _
+      (eq-eqb _ _ (ap (λ (cs : List ℕ). getD cs l 0) (agrees-counts r ok) ∙ count-at (r .levels) l h ∙ sym (weight-mask (r .levels) l (sized .levels)) ∙ ap (weight 64) (sym (mask ∙ mask-at (r .levels) l h))))
+      (ap (λ (b : Bool). Bool·beq b (active (getD (r .counts) l 0))) word ∙ beq-refl (active (getD (r .counts) l 0))))
+    where
+      mask : getD (r .masks) l 0 ≡ getD (masksOf (r .levels)) l 0
+      mask = ap (λ (ms : List ℕ). getD ms l 0) (agrees-masks r ok)
+
+      word : bit (getD (r .words) (l / 64) 0) (l % 64) ≡ active (getD (r .counts) l 0)
+      word =
+          ap (λ (ws : List ℕ). bit (getD ws (l / 64) 0) (l % 64)) (agrees-words r ok ∙ ap wordsOf (sym (agrees-counts r ok)))
+          ∙ words-bit (r .counts) l (omega arith)
+
+  pub top-clear : agrees r ≡ true → getD (r .words) 1 0 < 2 ^ 38
+  top-clear ok =
+      subst (λ (ws : List ℕ). getD ws 1 0 < 2 ^ 38) (ap wordsOf (agrees-counts r ok) ∙ sym (agrees-words r ok))
+      (word-one-lt (r .counts) (sized .counts))
+
+  -- and the other way round
+  pub tests-agree : ((l : ℕ) → l < levelCount → levelTest r (masksOf (r .levels)) l ≡ true) → getD (r .words) 1 0 < 2 ^ 38 → agrees r ≡ true
+  tests-agree tests top = agrees-of r masks counts words
+    where
+      mask-test : (l : ℕ) → Bool
+      mask-test l = eqb (getD (r .masks) l 0) (getD (masksOf (r .levels)) l 0)
+
+      count-test : (l : ℕ) → Bool
+      count-test l = eqb (getD (r .counts) l 0) (weight 64 (getD (r .masks) l 0))
+
+      word-test : (l : ℕ) → Bool
+      word-test l = Bool·beq (bit (getD (r .words) (l / 64) 0) (l % 64)) (active (getD (r .counts) l 0))
+
+      mask : (l : ℕ) → l < levelCount → getD (r .masks) l 0 ≡ getD (masksOf (r .levels)) l 0
+      mask l h = eqb-true _ _ (and-left (mask-test l) (count-test l && word-test l) (tests l h))
+
+      masks : r .masks ≡ masksOf (r .levels)
+      masks = ext-getD 0 (r .masks) (masksOf (r .levels)) (sized .masks ∙ sym (length-masks (r .levels))) (λ l h. mask l (omega (arith, sized .masks)))
+
+      counts : r .counts ≡ countsOf (r .levels)
+      counts = ext-getD 0 (r .counts) (countsOf (r .levels)) (sized .counts ∙ sym (length-counts (r .levels))) (λ l h.
+          let hl : l < levelCount = omega (arith, sized .counts) in
+          eqb-true _ _ (and-left (count-test l) (word-test l) (and-right (mask-test l) (count-test l && word-test l) (tests l hl)))
+          ∙ ap (weight 64) (mask l hl ∙ mask-at (r .levels) l hl) ∙ weight-mask (r .levels) l (sized .levels) ∙ sym (count-at (r .levels) l hl))
+
+      bits : (l : ℕ) → l < 128 → bit (getD (r .words) (l / 64) 0) (l % 64) ≡ active (getD (r .counts) l 0)
+      bits l h = go (ltb l levelCount) refl
+        where
+          go : (b : Bool) → ltb l levelCount ≡ b → bit (getD (r .words) (l / 64) 0) (l % 64) ≡ active (getD (r .counts) l 0)
+          go true e = beq-true _ _ (and-right (count-test l) (word-test l) (and-right (mask-test l) (count-test l && word-test l) (tests l (ltb-true l levelCount e))))
+          go false e =
+              let hl : levelCount ≤ l = ltb-false l levelCount e in
+              let quotient : l / 64 ≡ 1 = omega arith in
+              ap (λ (q : ℕ). bit (getD (r .words) q 0) (l % 64)) quotient
+              ∙ bit-above 38 (getD (r .words) 1 0) (l % 64) top (omega arith) ∙ sym (past (r .counts) l (sized .counts) hl)
+
+      words : r .words ≡ wordsOf (countsOf (r .levels))
+      words = words-ext (r .counts) (r .words) (sized .words) (sized .counts) (sized .word 0) (sized .word 1) bits ∙ ap wordsOf counts
+
+-- a consistent record is whole, so its levels can be set
+pub consistent-whole : (n : ℕ) (r : Record) → length (r .levels) ≡ cpuPlaces → consistent n r ≡ true → Whole r
+unfolding consistent recordOf
+consistent-whole n r len e = record {
+  same = record-ext r (recordOf (r .levels)) (agrees-masks r ok) (agrees-counts r ok) (agrees-words r ok) refl;
+  places = len;
+  each = λ c h. fits-known n c (getD (r .levels) c 0) (fit-at n (r .levels) fit c (omega arith));
+}
+  where
+    fit : levelsFit n (r .levels) ≡ true
+    fit = and-left (levelsFit n (r .levels)) (agrees r) e
+
+    ok : agrees r ≡ true
+    ok = and-right (levelsFit n (r .levels)) (agrees r) e

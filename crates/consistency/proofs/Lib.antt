@@ -1,0 +1,3 @@
+-- The laws of a record that is consistent in itself.
+pub mod Words
+pub mod Agrees
