@@ -1,0 +1,50 @@
+//! One call of a public entry, and its answer.
+
+use binding::Event;
+use std::fmt;
+
+#[derive(Clone, Copy, Debug, PartialEq, Eq)]
+pub enum Call {
+    MakeFresh,
+    Check,
+    Event(Event),
+    Find(u32, u64),
+}
+
+/// All numbers that an entry answers; those that it does not are 0.
+#[derive(Clone, Copy, Debug, PartialEq, Eq)]
+pub struct Answer {
+    pub number: u8,
+    pub moves: u32,
+    pub level: u8,
+    pub mask: u64,
+}
+
+impl Answer {
+    pub fn plain(number: u8) -> Answer {
+        Answer {
+            number,
+            moves: 0,
+            level: 0,
+            mask: 0,
+        }
+    }
+}
+
+impl fmt::Display for Call {
+    fn fmt(&self, f: &mut fmt::Formatter) -> fmt::Result {
+        match self {
+            Call::MakeFresh => write!(f, "make_fresh"),
+            Call::Check => write!(f, "check"),
+            Call::Event(e) => {
+                let (kind, who, a, b) = (e.kind, e.who, e.a, e.b);
+                write!(
+                    f,
+                    "event kind={kind} who={who} a={a} b={b} mask={:#x}",
+                    e.mask
+                )
+            }
+            Call::Find(level, mask) => write!(f, "find level={level} mask={mask:#x}"),
+        }
+    }
+}

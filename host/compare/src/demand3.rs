@@ -1,0 +1,127 @@
+//! Demand 3's parts, looked for in the tables that an accepted event leaves. Knows neither implementation.
+
+use binding::{Event, Tables, TASKS};
+
+/// What must be remembered from before the event: each task's CPU.
+pub struct Before {
+    cpu: Vec<u8>,
+}
+
+impl Before {
+    pub fn of(t: &Tables) -> Before {
+        Before { cpu: t.cpu.clone() }
+    }
+}
+
+struct Move {
+    task: usize,
+    from: usize,
+    to: usize,
+}
+
+/// The first part that fails, in words.
+pub fn check(before: &Before, e: Event, moves: u32, after: &Tables) -> Result<(), String> {
+    if moves as usize >= after.n {
+        return Err(format!("{moves} migrations on {} CPUs", after.n));
+    }
+    let log: Vec<Move> = (0..moves as usize).map(|i| entry(after, i)).collect();
+    entries_sound(&log, before, e, after)?;
+    no_two(&log, "receives two tasks: CPU", |m| m.to)?;
+    no_two(&log, "moves twice: task", |m| m.task)?;
+    priorities_never_rise(&log, after)?;
+    each_stands_once(after)?;
+    nobody_outranks(after)
+}
+
+fn entry(t: &Tables, i: usize) -> Move {
+    Move {
+        task: t.log[3 * i] as usize,
+        from: t.log[3 * i + 1] as usize,
+        to: t.log[3 * i + 2] as usize,
+    }
+}
+
+/// "count = number of log entries, in order": each of the first `moves` entries is a move that took place, and
+/// no CPU changed without one. The event's own task may have changed its CPU before it moved.
+fn entries_sound(log: &[Move], before: &Before, e: Event, after: &Tables) -> Result<(), String> {
+    for (i, m) in log.iter().enumerate() {
+        if m.task >= TASKS || m.from >= after.n || m.to >= after.n || m.from == m.to {
+            return Err(format!("log entry {i} is no move"));
+        }
+    }
+    for task in 0..TASKS {
+        let own = (1..=6).contains(&e.kind) && e.who as usize == task;
+        let cpu = after.cpu[task] as usize;
+        match log.iter().find(|m| m.task == task) {
+            Some(m) if m.to != cpu => {
+                return Err(format!("task {task} is not where the log says it went"))
+            }
+            Some(m) if !own && m.from != before.cpu[task] as usize => {
+                return Err(format!("task {task} was not where the log says it waited"))
+            }
+            None if !own && cpu != before.cpu[task] as usize => {
+                return Err(format!("task {task} moved without a log entry"))
+            }
+            _ => (),
+        }
+    }
+    Ok(())
+}
+
+/// "no CPU receives two", "no task moves twice"
+fn no_two(log: &[Move], says: &str, number: fn(&Move) -> usize) -> Result<(), String> {
+    let mut seen = [false; TASKS];
+    for m in log {
+        if std::mem::replace(&mut seen[number(m)], true) {
+            return Err(format!("{says} {}", number(m)));
+        }
+    }
+    Ok(())
+}
+
+/// "movers' priorities never rise"
+fn priorities_never_rise(log: &[Move], after: &Tables) -> Result<(), String> {
+    match log
+        .windows(2)
+        .position(|pair| after.prio[pair[0].task] < after.prio[pair[1].task])
+    {
+        Some(i) => Err(format!("the mover's priority rises after log entry {i}")),
+        None => Ok(()),
+    }
+}
+
+/// "every runnable task in exactly one row once, none other"
+fn each_stands_once(after: &Tables) -> Result<(), String> {
+    let mut times = [0u32; TASKS];
+    for c in 0..after.n {
+        for &task in after.row(c) {
+            times[task as usize] += 1;
+        }
+    }
+    let wrong = |&i: &usize| times[i] != u32::from(after.state[i] == 2);
+    match (0..TASKS).find(wrong) {
+        Some(i) => Err(format!("task {i} stands {} times in rows", times[i])),
+        None => Ok(()),
+    }
+}
+
+/// "afterwards no waiting task outranks what runs on any CPU it is allowed"
+fn nobody_outranks(after: &Tables) -> Result<(), String> {
+    let prio = |task: u16| after.prio[task as usize];
+    // An empty row runs ordinary work or nothing, which every task outranks.
+    let running: Vec<u8> = (0..after.n)
+        .map(|c| after.row(c).first().map_or(0, |&first| prio(first)))
+        .collect();
+    for c in 0..after.n {
+        for &task in after.row(c).iter().skip(1) {
+            let mask = after.mask[task as usize];
+            let outranked = |&d: &usize| mask >> d & 1 == 1 && running[d] < prio(task);
+            if let Some(d) = (0..after.n).find(outranked) {
+                return Err(format!(
+                    "task {task} waits and outranks what runs on CPU {d}"
+                ));
+            }
+        }
+    }
+    Ok(())
+}

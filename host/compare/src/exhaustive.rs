@@ -1,0 +1,235 @@
+//! Mode exhaustive: every event on every machine of a small size, and on every machine that events lead to.
+
+use crate::call::Call;
+use crate::case::{Case, Failure};
+use crate::counters::Counters;
+use crate::pair::Pair;
+use crate::plan::Plan;
+use crate::universe::Size;
+use reference::Mutant;
+use std::collections::HashSet;
+use std::fmt;
+
+/// Every well-formed machine of these sizes, settled or not, with every event.
+pub const ALL_QUICK: &[Size] = &[
+    size(1, 2, &[1, 99], &[1, 2], &[1, 2], false),
+    size(2, 2, &[40, 50], &[1], &[100], false),
+];
+
+pub const ALL_FULL: &[Size] = &[
+    size(1, 3, &[1, 99], &[2], &[1, 2], false),
+    size(2, 2, &[40, 50], &[1, 2], &[1], false),
+    size(3, 3, &[40, 50], &[1], &[100], true),
+];
+
+/// Every machine that events lead to from the fresh one.
+pub const REACH_QUICK: &[Size] = &[
+    size(1, 2, &[10, 20], &[1, 2], &[1, 2, 100], false),
+    size(2, 2, &[10, 20], &[1], &[100], false),
+];
+
+pub const REACH_FULL: &[Size] = &[
+    size(1, 3, &[10, 20], &[1], &[100], false),
+    size(2, 2, &[10, 20, 30], &[1], &[100], false),
+    size(2, 3, &[10, 20], &[1], &[100], false),
+];
+
+/// Every machine that wakes, sleeps, ticks and yields lead to, from any priorities and masks.
+pub const RUN_QUICK: &[Size] = &[size(2, 3, &[10, 20, 30], &[1], &[100], false)];
+
+pub const RUN_FULL: &[Size] = &[size(3, 3, &[10, 20], &[1], &[100], false)];
+
+const fn size(
+    n: usize,
+    tasks: usize,
+    prios: &'static [u8],
+    policies: &'static [u8],
+    slices: &'static [u8],
+    crowded: bool,
+) -> Size {
+    Size {
+        n,
+        tasks,
+        prios,
+        policies,
+        slices,
+        crowded,
+    }
+}
+
+/// How far a search came.
+pub struct Reached {
+    pub machines: usize,
+    /// Every machine that so many events lead to had every event tried on it.
+    pub depth: usize,
+    /// No machine was left.
+    pub whole: bool,
+}
+
+impl fmt::Display for Reached {
+    fn fmt(&self, f: &mut fmt::Formatter) -> fmt::Result {
+        let whole = if self.whole { "all" } else { "not all" };
+        let (machines, depth) = (self.machines, self.depth);
+        write!(f, "reaches {machines} machines, {whole}, depth {depth}")
+    }
+}
+
+/// Every event on one machine; gives the machines that follow to `next`.
+fn every_event(
+    plan: &Plan,
+    calls: &[Call],
+    mutant: Mutant,
+    counters: &mut Counters,
+    next: &mut impl FnMut(Plan),
+) -> Option<Failure> {
+    let start = Pair::new(plan.tables(), mutant);
+    counters.cases += 1;
+    for &call in calls.iter().filter(|call| tells(plan, call)) {
+        let mut pair = start.clone();
+        match pair.call(call) {
+            Ok(answer) => {
+                counters.count(call, answer);
+                if answer.number == 0 {
+                    next(Plan::read(&pair.ours));
+                }
+            }
+            Err(difference) => {
+                let case = Case {
+                    plan: plan.clone(),
+                    damage: Vec::new(),
+                    calls: vec![call],
+                };
+                return Some(Failure {
+                    mode: "exhaustive",
+                    from: None,
+                    mutant,
+                    case,
+                    calls: counters.calls + 1,
+                    difference,
+                });
+            }
+        }
+    }
+    None
+}
+
+/// Whether a call can show something that another of the same machine does not: an add to a place in use, and a
+/// mask or priority for a free one, are refused whatever their other numbers are, so one of each will do.
+fn tells(plan: &Plan, call: &Call) -> bool {
+    let Call::Event(e) = call else {
+        return true;
+    };
+    let used = plan.tasks.iter().any(|task| u32::from(task.id) == e.who);
+    match e.kind {
+        1 => !used || e.mask == 1,
+        5 => used || e.b == 100,
+        6 => used || e.mask == 1,
+        _ => true,
+    }
+}
+
+fn calls_of(size: &Size) -> Vec<Call> {
+    size.events().into_iter().map(Call::Event).collect()
+}
+
+/// Every event on every well-formed machine of the size; how many machines there are.
+pub fn all(size: &Size, mutant: Mutant, counters: &mut Counters) -> Result<usize, Box<Failure>> {
+    let calls = calls_of(size);
+    let machines = size.machines();
+    for plan in &machines {
+        if let Some(failure) = every_event(plan, &calls, mutant, counters, &mut |_| ()) {
+            return Err(Box::new(failure));
+        }
+    }
+    Ok(machines.len())
+}
+
+/// Every event, from the fresh machine, until no machine is new or so many calls have been compared.
+pub fn reach(
+    size: &Size,
+    limit: u64,
+    mutant: Mutant,
+    counters: &mut Counters,
+) -> Result<Reached, Box<Failure>> {
+    let starts = vec![Plan::empty(size.n)];
+    search(starts, &calls_of(size), size, limit, mutant, counters)
+}
+
+/// Every wake, sleep, tick and yield, from every setting of the size, until no machine is new or so many calls have
+/// been compared.
+pub fn run_on(
+    size: &Size,
+    limit: u64,
+    mutant: Mutant,
+    counters: &mut Counters,
+) -> Result<Reached, Box<Failure>> {
+    let runs = |call: &Call| matches!(call, Call::Event(e) if matches!(e.kind, 3 | 4 | 7 | 8));
+    let calls: Vec<Call> = calls_of(size).into_iter().filter(runs).collect();
+    search(size.settings(), &calls, size, limit, mutant, counters)
+}
+
+/// Breadth first.
+fn search(
+    starts: Vec<Plan>,
+    calls: &[Call],
+    size: &Size,
+    limit: u64,
+    mutant: Mutant,
+    counters: &mut Counters,
+) -> Result<Reached, Box<Failure>> {
+    let until = counters.calls + limit;
+    let mut seen: HashSet<Plan> = starts.iter().cloned().collect();
+    let mut layer = starts;
+    let mut depth = 0;
+    while !layer.is_empty() {
+        let mut following = Vec::new();
+        for plan in &layer {
+            if counters.calls >= until {
+                let machines = seen.len();
+                return Ok(Reached {
+                    machines,
+                    depth,
+                    whole: false,
+                });
+            }
+            let mut next = |plan: Plan| {
+                for plan in slices_varied(plan, size) {
+                    if !seen.contains(&plan) {
+                        seen.insert(plan.clone());
+                        following.push(plan);
+                    }
+                }
+            };
+            if let Some(failure) = every_event(plan, calls, mutant, counters, &mut next) {
+                return Err(Box::new(failure));
+            }
+        }
+        depth += 1;
+        layer = following;
+    }
+    let machines = seen.len();
+    Ok(Reached {
+        machines,
+        depth,
+        whole: true,
+    })
+}
+
+/// The machine itself, if its slices are the size's; and, for an RR task with a full slice, the machines in which
+/// ticks have left it one of the others, which spares the search the many ticks between.
+fn slices_varied(plan: Plan, size: &Size) -> Vec<Plan> {
+    if plan.tasks.iter().any(|t| !size.slices.contains(&t.slice)) {
+        return Vec::new();
+    }
+    let mut all = vec![plan.clone()];
+    for (i, task) in plan.tasks.iter().enumerate() {
+        if task.policy == 2 && task.slice == 100 {
+            for &slice in size.slices {
+                let mut other = plan.clone();
+                other.tasks[i].slice = slice;
+                all.push(other);
+            }
+        }
+    }
+    all
+}

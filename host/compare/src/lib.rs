@@ -1,0 +1,20 @@
+//! Compares the proved library with the reference, call by call and byte by byte.
+
+pub mod call;
+pub mod case;
+pub mod counters;
+pub mod damage;
+pub mod damaged;
+pub mod demand3;
+pub mod difference;
+pub mod events;
+pub mod exhaustive;
+pub mod generate;
+pub mod mutants;
+pub mod pair;
+pub mod plan;
+pub mod random;
+pub mod rng;
+pub mod tables;
+pub mod universe;
+pub mod vectors;

@@ -1,0 +1,335 @@
+//! K1 to K12 of the paper, with the paper's numbers, on our library and on the reference.
+
+use crate::pair::for_reference_event;
+use crate::tables::for_reference;
+use binding::{Event, Outcome, Tables};
+use reference::Mutant;
+
+/// Whose scheduler runs the examples.
+#[derive(Clone, Copy, PartialEq, Eq)]
+pub enum Side {
+    Ours,
+    Theirs(Mutant),
+}
+
+enum Step {
+    /// A fresh machine of N CPUs, and the answer.
+    Fresh(usize, u8),
+    /// An event, and the answer.
+    Do(Event, u8),
+    Rows(&'static [&'static [u16]]),
+    Levels(&'static [u8]),
+    Cpus(&'static [u8]),
+    /// The log of the last event, which says its number of moves too.
+    Log(&'static [u16]),
+    /// A task's slice.
+    Slice(usize, u16),
+}
+
+use Step::*;
+
+const FIFO: u32 = 1;
+const RR: u32 = 2;
+
+fn event(kind: u32, who: u32, a: u32, b: u32, mask: u64) -> Event {
+    Event {
+        kind,
+        who,
+        a,
+        b,
+        mask,
+    }
+}
+
+fn add(who: u32, prio: u32, mask: u64) -> Step {
+    Do(event(1, who, FIFO, prio, mask), 0)
+}
+
+fn add_rr(who: u32, prio: u32, mask: u64) -> Step {
+    Do(event(1, who, RR, prio, mask), 0)
+}
+
+fn wake(who: u32) -> Step {
+    Do(event(3, who, 0, 0, 0), 0)
+}
+
+fn sleep(who: u32) -> Step {
+    Do(event(4, who, 0, 0, 0), 0)
+}
+
+fn tick(cpu: u32) -> Step {
+    Do(event(7, cpu, 0, 0, 0), 0)
+}
+
+fn k1() -> Vec<Step> {
+    let wakes = vec![Fresh(1, 0), add(0, 50, 1), wake(0)];
+    then(wakes, vec![Rows(&[&[0]]), Levels(&[52]), Log(&[])])
+}
+
+fn k2() -> Vec<Step> {
+    vec![
+        Fresh(2, 0),
+        add(0, 50, 3),
+        add(1, 40, 3),
+        wake(1),
+        wake(0),
+        Log(&[1, 0, 1]),
+        Rows(&[&[0], &[1]]),
+        Levels(&[52, 42]),
+    ]
+}
+
+fn k3() -> Vec<Step> {
+    let more = vec![add(2, 40, 3), wake(2), Rows(&[&[0, 2], &[1]]), Log(&[])];
+    then(k2(), more)
+}
+
+fn k4() -> Vec<Step> {
+    then(k3(), vec![sleep(0), Rows(&[&[2], &[1]]), Log(&[])])
+}
+
+fn k5() -> Vec<Step> {
+    vec![
+        Fresh(3, 0),
+        add(0, 30, 3),
+        add(1, 20, 6),
+        add(2, 10, 4),
+        add(3, 40, 1),
+        wake(0),
+        Log(&[]),
+        wake(1),
+        Log(&[]),
+        wake(2),
+        Log(&[]),
+        Rows(&[&[0], &[1], &[2]]),
+        wake(3),
+        Log(&[0, 0, 1, 1, 1, 2]),
+        Rows(&[&[3], &[0], &[1, 2]]),
+        Levels(&[42, 32, 22]),
+        Cpus(&[1, 2, 2, 0]),
+    ]
+}
+
+fn k6() -> Vec<Step> {
+    let more = vec![
+        sleep(3),
+        Log(&[]),
+        Rows(&[&[], &[0], &[1, 2]]),
+        Levels(&[0, 32, 22]),
+    ];
+    then(k5(), more)
+}
+
+fn k7() -> Vec<Step> {
+    vec![
+        Fresh(2, 0),
+        add(0, 60, 1),
+        add(1, 50, 1),
+        add(2, 40, 3),
+        wake(0),
+        wake(1),
+        wake(2),
+        Log(&[2, 0, 1]),
+        Rows(&[&[0, 1], &[2]]),
+    ]
+}
+
+fn k8() -> Vec<Step> {
+    let more = vec![
+        Do(event(6, 0, 0, 0, 2), 0),
+        Rows(&[&[1], &[0]]),
+        Log(&[1, 1, 0]),
+    ];
+    then(k2(), more)
+}
+
+fn k9() -> Vec<Step> {
+    let mut steps = vec![
+        Fresh(1, 0),
+        add_rr(0, 20, 1),
+        add_rr(1, 20, 1),
+        wake(0),
+        wake(1),
+    ];
+    steps.extend((0..99).map(|_| tick(0)));
+    let more = vec![
+        Slice(0, 1),
+        Rows(&[&[0, 1]]),
+        tick(0),
+        Rows(&[&[1, 0]]),
+        Slice(0, 100),
+    ];
+    then(steps, more)
+}
+
+fn k10() -> Vec<Step> {
+    vec![
+        Fresh(3, 0),
+        Do(event(9, 1, 0, 1, 0), 0),
+        add(0, 50, 7),
+        add(1, 40, 7),
+        wake(0),
+        Cpus(&[0]),
+        wake(1),
+        Log(&[1, 0, 2]),
+        Rows(&[&[0], &[], &[1]]),
+    ]
+}
+
+fn k11() -> Vec<Step> {
+    vec![
+        Fresh(1, 0),
+        add(0, 50, 1),
+        add(1, 30, 1),
+        wake(0),
+        wake(1),
+        Rows(&[&[0, 1]]),
+        Do(event(5, 0, 0, 30, 0), 0),
+        Rows(&[&[1, 0]]),
+    ]
+}
+
+fn k12() -> Vec<Step> {
+    vec![
+        Fresh(0, 1),
+        Fresh(65, 1),
+        Fresh(2, 0),
+        Do(event(1, 512, FIFO, 50, 3), 4),
+        Do(event(3, 512, 0, 0, 0), 4),
+        add(511, 1, 3),
+        wake(511),
+        Do(event(3, 511, 0, 0, 0), 5),
+        Do(event(1, 0, FIFO, 0, 3), 7),
+        Do(event(1, 0, FIFO, 100, 3), 7),
+        Do(event(1, 0, FIFO, 50, 0), 8),
+        Do(event(1, 0, FIFO, 50, 4), 8),
+        Do(event(8, 1, 0, 0, 0), 9),
+        Fresh(64, 0),
+        add(511, 99, 1 << 63),
+        wake(511),
+        Cpus(&[0]),
+        Do(event(5, 511, 0, 1, 0), 0),
+    ]
+}
+
+fn then(mut first: Vec<Step>, more: Vec<Step>) -> Vec<Step> {
+    first.extend(more);
+    first
+}
+
+/// A machine of one side. Events of the reference go through its own tables; ours are read in between.
+struct Run {
+    side: Side,
+    t: Tables,
+    moves: u32,
+}
+
+impl Run {
+    fn fresh(&mut self, n: usize) -> u8 {
+        self.t = Tables::zeroed(n);
+        match self.side {
+            Side::Ours => self.t.make_fresh(),
+            Side::Theirs(m) => {
+                let mut theirs = for_reference(&self.t);
+                let answer = reference::make_fresh(&mut theirs, m);
+                self.t = back(theirs);
+                answer
+            }
+        }
+    }
+
+    fn event(&mut self, e: Event) -> Outcome {
+        match self.side {
+            Side::Ours => self.t.event(e),
+            Side::Theirs(m) => {
+                let mut theirs = for_reference(&self.t);
+                let outcome = reference::event(&mut theirs, for_reference_event(e), m);
+                self.t = back(theirs);
+                Outcome {
+                    answer: outcome.answer,
+                    moves: outcome.moves,
+                }
+            }
+        }
+    }
+
+    /// What is not as the paper says, if anything.
+    fn step(&mut self, step: &Step) -> Result<(), String> {
+        match *step {
+            Fresh(n, answer) => same("answer of make_fresh", self.fresh(n), answer),
+            Do(e, answer) => {
+                let outcome = self.event(e);
+                self.moves = outcome.moves;
+                same("answer of the event", outcome.answer, answer)
+            }
+            Rows(rows) => {
+                let here: Vec<&[u16]> = (0..self.t.n).map(|c| self.t.row(c)).collect();
+                same("rows", here, rows.to_vec())
+            }
+            Levels(levels) => same("levels", &self.t.levels[..levels.len()], levels),
+            Cpus(cpus) => same("CPUs of tasks", &self.t.cpu[..cpus.len()], cpus),
+            Log(log) => {
+                same("number of moves", self.moves as usize, log.len() / 3)?;
+                same("log", &self.t.log[..log.len()], log)
+            }
+            Slice(task, slice) => same("slice", self.t.slice[task], slice),
+        }
+    }
+}
+
+fn same<T: PartialEq + std::fmt::Debug>(what: &str, here: T, paper: T) -> Result<(), String> {
+    match here == paper {
+        true => Ok(()),
+        false => Err(format!("{what}: {here:?}, by the paper {paper:?}")),
+    }
+}
+
+fn back(t: reference::Tables) -> Tables {
+    Tables {
+        n: t.n,
+        state: t.state,
+        policy: t.policy,
+        prio: t.prio,
+        cpu: t.cpu,
+        slice: t.slice,
+        mask: t.mask,
+        rows: t.rows,
+        counts: t.counts,
+        flags: t.flags,
+        log: t.log,
+        level_masks: t.level_masks,
+        level_counts: t.level_counts,
+        level_words: t.level_words,
+        levels: t.levels,
+    }
+}
+
+/// The examples that a side gets wrong, and how.
+pub fn wrong(side: Side) -> Vec<String> {
+    let all = [
+        k1(),
+        k2(),
+        k3(),
+        k4(),
+        k5(),
+        k6(),
+        k7(),
+        k8(),
+        k9(),
+        k10(),
+        k11(),
+        k12(),
+    ];
+    let mut wrong = Vec::new();
+    for (i, steps) in all.iter().enumerate() {
+        let mut run = Run {
+            side,
+            t: Tables::zeroed(1),
+            moves: 0,
+        };
+        if let Some(says) = steps.iter().find_map(|step| run.step(step).err()) {
+            wrong.push(format!("K{} {says}", i + 1));
+        }
+    }
+    wrong
+}

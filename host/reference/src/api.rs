@@ -1,0 +1,136 @@
+//! The four public entries.
+
+use crate::effect::own_effect;
+use crate::machine::Machine;
+use crate::migrate::{settle, Step};
+use crate::mutant::Mutant;
+use crate::record::Record;
+use crate::refuse::refusal;
+use crate::tables::{mask_right, Event, Tables, INVALID, NOTHING};
+use crate::wellformed::well_formed;
+
+/// "Accepted is 0 with the number of moves [...] A refusal reports 0 moves"
+#[derive(Clone, Copy, Debug, PartialEq, Eq)]
+pub struct Outcome {
+    pub answer: u8,
+    pub moves: u32,
+}
+
+/// "None is answer 0 with level 255 and mask 0; a refusing finder gives its number with the same 255 and 0."
+#[derive(Clone, Copy, Debug, PartialEq, Eq)]
+pub struct Found {
+    pub answer: u8,
+    pub level: u8,
+    pub mask: u64,
+}
+
+/// "Making a fresh machine refuses only with 1 [...] Old table contents don't matter to the fresh maker."
+pub fn make_fresh(t: &mut Tables, m: Mutant) -> u8 {
+    if !t.sizes_right() {
+        return 1;
+    }
+    Machine::fresh(t.n).write(t, m);
+    if m != Mutant::FreshKeepsLog {
+        t.log.fill(NOTHING);
+    }
+    if m == Mutant::FreshMissingIdle {
+        t.levels.fill(0);
+    }
+    0
+}
+
+/// "the public checker answers 0, 1 or 2 and changes nothing"
+pub fn check(t: &Tables, m: Mutant) -> u8 {
+    match (t.sizes_right(), t.sizes_right() && well_formed(t, m)) {
+        (false, _) => 1,
+        (true, false) => 2,
+        (true, true) => 0,
+    }
+}
+
+/// "A refusal reports 0 moves and changes nothing."
+pub fn event(t: &mut Tables, e: Event, m: Mutant) -> Outcome {
+    let answer = refusal(t, e, m);
+    if answer != 0 {
+        if m == Mutant::RefusalWritesLog {
+            t.log.fill(NOTHING);
+        }
+        return Outcome { answer, moves: 0 };
+    }
+    let mut machine = Machine::read(t);
+    own_effect(&mut machine, e, m);
+    let idle = m == Mutant::NoStepAfterNothing && machine.tasks == Machine::read(t).tasks;
+    let steps = if idle {
+        Vec::new()
+    } else {
+        settle(&mut machine, m)
+    };
+    let before = Record::lent(t);
+    machine.write(t, m);
+    write_log(t, &steps, m);
+    spoil_record(t, before, e, m);
+    let moves = steps.len() as u32;
+    Outcome { answer, moves }
+}
+
+/// "Step i, from 0, is entry i of the log: its mover, the CPU it waited on, its destination."
+/// "log entries from that number on stay as they were"
+fn write_log(t: &mut Tables, steps: &[Step], m: Mutant) {
+    if m == Mutant::LogWiped {
+        t.log.fill(NOTHING);
+    }
+    for (i, step) in steps.iter().enumerate() {
+        let (from, to) = match m {
+            Mutant::LogSwapped => (step.to, step.from),
+            _ => (step.from, step.to),
+        };
+        t.log[3 * i..3 * i + 3].copy_from_slice(&[step.task, from as u16, to as u16]);
+    }
+}
+
+/// The errors of a record that is not kept up to date. The paper's behaviour is to do nothing here.
+fn spoil_record(t: &mut Tables, before: Record, e: Event, m: Mutant) {
+    match m {
+        Mutant::SleepKeepsLevel if e.kind == 4 => before.hand_back(t),
+        Mutant::OldMaskStays => {
+            for c in 0..t.n {
+                t.level_masks[before.levels[c] as usize] |= 1 << c;
+            }
+        }
+        _ => (),
+    }
+}
+
+/// "asked with N, a record, a level 0 to 101 and a mask"
+pub fn find(t: &Tables, level: u32, mask: u64, m: Mutant) -> Found {
+    let nothing = |answer| Found {
+        answer,
+        level: if m == Mutant::FinderNoneIsZero {
+            0
+        } else {
+            INVALID
+        },
+        mask: 0,
+    };
+    if !(t.cpus_right() && t.record_sizes_right()) {
+        return nothing(1);
+    }
+    let record = Record::lent(t);
+    if !record.consistent(t.n, m) {
+        return nothing(2);
+    }
+    if level > 101 {
+        return nothing(7);
+    }
+    if !mask_right(mask, t.n) {
+        return nothing(8);
+    }
+    match record.lowest_below(level, mask, m) {
+        Some((level, mask)) => Found {
+            answer: 0,
+            level,
+            mask,
+        },
+        None => nothing(0),
+    }
+}

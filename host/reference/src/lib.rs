@@ -1,0 +1,22 @@
+//! A second scheduler, written from the paper alone, to compare the proved library with.
+//!
+//! It has another shape: tasks are a map, and a task remembers when it came to its row. Rows, levels and the
+//! record are worked out from the tasks each time they are asked for. Nothing is kept up to date.
+//!
+//! A [`Mutant`] puts one known error into it. That serves only to show that the tests tell the error apart.
+
+mod api;
+mod effect;
+mod machine;
+mod migrate;
+mod mutant;
+mod record;
+mod refuse;
+mod tables;
+mod wellformed;
+
+pub use api::{check, event, find, make_fresh, Found, Outcome};
+pub use machine::{Machine, Task};
+pub use mutant::Mutant;
+pub use record::Record;
+pub use tables::{Event, Tables, CPUS, INVALID, LEVELS, LOG, NOTHING, TASKS, WORDS};

@@ -1,0 +1,217 @@
+//! K1 to K12 of the paper on the reference alone.
+
+use reference::{check, event, find, make_fresh, Event, Mutant, Tables};
+
+const FIFO: u32 = 1;
+const RR: u32 = 2;
+
+struct Run {
+    t: Tables,
+    moves: u32,
+}
+
+impl Run {
+    fn fresh(n: usize) -> Run {
+        let mut t = Tables::blank(n);
+        assert_eq!(make_fresh(&mut t, Mutant::None), 0);
+        Run { t, moves: 0 }
+    }
+
+    fn answer(&mut self, kind: u32, who: u32, a: u32, b: u32, mask: u64) -> u8 {
+        let e = Event {
+            kind,
+            who,
+            a,
+            b,
+            mask,
+        };
+        let outcome = event(&mut self.t, e, Mutant::None);
+        assert_eq!(check(&self.t, Mutant::None), 0);
+        self.moves = outcome.moves;
+        outcome.answer
+    }
+
+    fn does(&mut self, kind: u32, who: u32, a: u32, b: u32, mask: u64) -> &mut Run {
+        assert_eq!(self.answer(kind, who, a, b, mask), 0);
+        self
+    }
+
+    fn add(&mut self, who: u32, prio: u32, mask: u64) -> &mut Run {
+        self.does(1, who, FIFO, prio, mask)
+    }
+
+    fn wake(&mut self, who: u32) -> &mut Run {
+        self.does(3, who, 0, 0, 0)
+    }
+
+    fn rows(&self) -> Vec<Vec<u16>> {
+        let row = |c: usize| self.t.rows[512 * c..512 * c + self.t.counts[c] as usize].to_vec();
+        (0..self.t.n).map(row).collect()
+    }
+
+    fn log(&self) -> &[u16] {
+        &self.t.log[..3 * self.moves as usize]
+    }
+}
+
+fn k2() -> Run {
+    let mut run = Run::fresh(2);
+    run.add(0, 50, 3).add(1, 40, 3).wake(1).wake(0);
+    run
+}
+
+fn k3() -> Run {
+    let mut run = k2();
+    run.add(2, 40, 3).wake(2);
+    run
+}
+
+fn k5() -> Run {
+    let mut run = Run::fresh(3);
+    run.add(0, 30, 3).add(1, 20, 6).add(2, 10, 4).add(3, 40, 1);
+    run.wake(0).wake(1).wake(2);
+    assert_eq!(run.moves, 0);
+    assert_eq!(run.rows(), [[0], [1], [2]]);
+    run.wake(3);
+    run
+}
+
+#[test]
+fn k1_one_task_runs() {
+    let mut run = Run::fresh(1);
+    run.add(0, 50, 1).wake(0);
+    assert_eq!(run.rows(), [[0]]);
+    assert_eq!(run.t.levels[0], 52);
+    assert_eq!(run.moves, 0);
+}
+
+#[test]
+fn k2_the_lower_moves_away() {
+    let run = k2();
+    assert_eq!(run.log(), [1, 0, 1]);
+    assert_eq!(run.rows(), [[0], [1]]);
+    assert_eq!(run.t.levels[..2], [52, 42]);
+}
+
+#[test]
+fn k3_equal_does_not_outrank() {
+    let run = k3();
+    assert_eq!(run.rows(), [vec![0, 2], vec![1]]);
+    assert_eq!(run.moves, 0);
+}
+
+#[test]
+fn k4_the_waiter_runs_after_a_sleep() {
+    let mut run = k3();
+    run.does(4, 0, 0, 0, 0);
+    assert_eq!(run.rows(), [[2], [1]]);
+    assert_eq!(run.moves, 0);
+}
+
+#[test]
+fn k5_a_chain_of_two() {
+    let run = k5();
+    assert_eq!(run.moves, 2);
+    assert_eq!(run.log(), [0, 0, 1, 1, 1, 2]);
+    assert_eq!(run.rows(), [vec![3], vec![0], vec![1, 2]]);
+    assert_eq!(run.t.counts, [1, 1, 2]);
+    assert_eq!(run.t.levels[..3], [42, 32, 22]);
+    assert_eq!(run.t.cpu[..4], [1, 2, 2, 0]);
+}
+
+#[test]
+fn k6_running_tasks_stay() {
+    let mut run = k5();
+    run.does(4, 3, 0, 0, 0);
+    assert_eq!(run.moves, 0);
+    assert_eq!(run.t.levels[0], 0);
+    assert_eq!(run.rows(), [vec![], vec![0], vec![1, 2]]);
+}
+
+#[test]
+fn k7_past_a_pinned_waiter() {
+    let mut run = Run::fresh(2);
+    run.add(0, 60, 1).add(1, 50, 1).add(2, 40, 3);
+    run.wake(0).wake(1).wake(2);
+    assert_eq!(run.log(), [2, 0, 1]);
+    assert_eq!(run.rows(), [vec![0, 1], vec![2]]);
+}
+
+#[test]
+fn k8_a_mask_without_the_cpu() {
+    let mut run = k2();
+    run.does(6, 0, 0, 0, 2);
+    assert_eq!(run.rows(), [[1], [0]]);
+    assert_eq!(run.log(), [1, 1, 0]);
+}
+
+#[test]
+fn k9_a_slice_ends() {
+    let mut run = Run::fresh(1);
+    run.does(1, 0, RR, 20, 1).does(1, 1, RR, 20, 1);
+    run.wake(0).wake(1);
+    for _ in 0..99 {
+        run.does(7, 0, 0, 0, 0);
+    }
+    assert_eq!(run.t.slice[0], 1);
+    assert_eq!(run.rows(), [[0, 1]]);
+    run.does(7, 0, 0, 0, 0);
+    assert_eq!(run.rows(), [[1, 0]]);
+    assert_eq!(run.t.slice[0], 100);
+}
+
+#[test]
+fn k10_idle_before_ordinary() {
+    let mut run = Run::fresh(3);
+    run.does(9, 1, 0, 1, 0).add(0, 50, 7).add(1, 40, 7);
+    run.wake(0).wake(1);
+    assert_eq!(run.log(), [1, 0, 2]);
+    assert_eq!(run.rows(), [vec![0], vec![], vec![1]]);
+    assert_eq!(run.t.levels[..3], [52, 1, 42]);
+}
+
+#[test]
+fn k11_lowered_to_an_equal() {
+    let mut run = Run::fresh(1);
+    run.add(0, 50, 1).add(1, 30, 1).wake(0).wake(1);
+    assert_eq!(run.rows(), [[0, 1]]);
+    run.does(5, 0, 0, 30, 0);
+    assert_eq!(run.rows(), [[1, 0]]);
+}
+
+#[test]
+fn k12_refusals() {
+    for n in [0, 65] {
+        let mut t = Tables::blank(n);
+        let before = t.clone();
+        assert_eq!(make_fresh(&mut t, Mutant::None), 1);
+        assert_eq!(t, before);
+    }
+    let mut run = Run::fresh(2);
+    assert_eq!(run.answer(1, 512, FIFO, 50, 3), 4);
+    assert_eq!(run.answer(1, 511, FIFO, 0, 3), 7);
+    assert_eq!(run.answer(1, 511, FIFO, 100, 3), 7);
+    assert_eq!(run.answer(1, 511, FIFO, 1, 0), 8);
+    assert_eq!(run.answer(1, 511, FIFO, 1, 4), 8);
+    assert_eq!(run.answer(8, 1, 0, 0, 0), 9);
+    run.add(511, 1, 3).wake(511);
+    assert_eq!(run.answer(3, 511, 0, 0, 0), 5);
+    let mut widest = Run::fresh(64);
+    widest.add(511, 99, 1 << 63).wake(511);
+    assert_eq!(widest.t.levels[63], 101);
+}
+
+#[test]
+fn the_finder_answers_the_lowest_level_below() {
+    let run = k5();
+    let ask = |level, mask| {
+        let found = find(&run.t, level, mask, Mutant::None);
+        (found.answer, found.level, found.mask)
+    };
+    assert_eq!(ask(101, 7), (0, 22, 4));
+    assert_eq!(ask(101, 3), (0, 32, 2));
+    assert_eq!(ask(22, 7), (0, 255, 0));
+    assert_eq!(ask(102, 7), (7, 255, 0));
+    assert_eq!(ask(101, 8), (8, 255, 0));
+    assert_eq!(ask(101, 0), (8, 255, 0));
+}
