@@ -1,0 +1,35 @@
+//! Inner events that cost the most.
+
+use crate::grid::{shape_cells, shapes};
+use crate::machines::{chain, full_row, yields, Scene};
+use crate::side::Work;
+use crate::table::Table;
+use crate::timing::{time, Effort};
+
+pub fn worst(effort: Effort) {
+    println!("Inner event, worst cases, ns an event\n");
+    let head = [
+        "case",
+        "library",
+        "plain",
+        "library/plain",
+        "plain, record by value",
+        "library/it",
+    ];
+    let mut table = Table::new(&head);
+    let cases: [(&str, Scene); 5] = [
+        ("63 moves on 64 CPUs", chain(false)),
+        ("63 moves, 7 pinned tasks wait in each row", chain(true)),
+        ("wake, sleep: end of a row of 512", full_row(false)),
+        ("wake, sleep: front of a row of 512", full_row(true)),
+        ("yield: front to end of a row of 512", yields()),
+    ];
+    for (name, scene) in cases {
+        let work = Work::Inner(scene.events.clone());
+        let times = time(&mut shapes(&scene), &work, effort);
+        let mut cells = vec![name.to_string()];
+        cells.extend(shape_cells(&times));
+        table.row(cells);
+    }
+    table.print();
+}
