@@ -63,7 +63,7 @@ fn bytes(n: usize) -> usize {
 
 pub fn check(effort: Effort) {
     println!("Check of all tables, ns a call\n");
-    let points = measure(effort, three, |_| Work::Check(20));
+    let points = measure(effort, three, |_| Work::Check(4));
     let head = [
         "N",
         "tasks",

@@ -15,7 +15,22 @@ pub enum Work {
     Find { times: usize, level: u32, mask: u64 },
 }
 
+/// How many events are timed at once: few enough that some rounds are left in peace.
+const PART: usize = 64;
+
 impl Work {
+    /// Parts that are timed one by one.
+    pub fn parts(&self) -> Vec<Work> {
+        match self {
+            Work::Events(events) => events
+                .chunks(PART)
+                .map(|c| Work::Events(c.into()))
+                .collect(),
+            Work::Inner(events) => events.chunks(PART).map(|c| Work::Inner(c.into())).collect(),
+            other => vec![other.clone()],
+        }
+    }
+
     /// How many calls the time is for.
     pub fn calls(&self) -> usize {
         match self {

@@ -1,5 +1,5 @@
 //! Times the compared versions in turn, round after round, so that what else the computer does meets all of
-//! them. The shortest round counts.
+//! them. The shortest time counts.
 
 use crate::side::{Side, Work};
 use std::time::{Duration, Instant};
@@ -14,11 +14,11 @@ pub struct Effort {
 impl Effort {
     pub const FULL: Effort = Effort {
         row: Duration::from_millis(400),
-        most_rounds: 2000,
+        most_rounds: 5000,
     };
     pub const QUICK: Effort = Effort {
         row: Duration::from_millis(30),
-        most_rounds: 200,
+        most_rounds: 500,
     };
 }
 
@@ -26,36 +26,49 @@ impl Effort {
 const SHARE: u32 = 3;
 const FEWEST_ROUNDS: usize = 2;
 
+/// One side's shortest time for each part of the work, and what it has spent.
+struct Watch {
+    best: Vec<Duration>,
+    spent: Duration,
+}
+
 /// The time of one call, in nanoseconds, for each side.
 ///
 /// # Panics
 /// If two sides differ in their answers or in the tables that they leave.
 pub fn time(sides: &mut [Box<dyn Side>], work: &Work, effort: Effort) -> Vec<f64> {
     same(sides, work);
-    let mut best = vec![Duration::MAX; sides.len()];
-    let mut spent = vec![Duration::ZERO; sides.len()];
+    let parts = work.parts();
+    let fresh = || Watch {
+        best: vec![Duration::MAX; parts.len()],
+        spent: Duration::ZERO,
+    };
+    let mut watches: Vec<Watch> = sides.iter().map(|_| fresh()).collect();
     for round in 0..effort.most_rounds {
-        let mut done = true;
-        for (i, side) in sides.iter_mut().enumerate() {
-            if round >= FEWEST_ROUNDS && spent[i] > effort.row / SHARE {
-                continue;
+        for (side, watch) in sides.iter_mut().zip(&mut watches) {
+            if round < FEWEST_ROUNDS || watch.spent < effort.row / SHARE {
+                watch.round(side.as_mut(), &parts);
             }
-            done = false;
-            side.restart();
-            let from = Instant::now();
-            side.run(work);
-            let took = from.elapsed();
-            spent[i] += took;
-            best[i] = best[i].min(took);
-        }
-        if done {
-            break;
         }
     }
     let calls = work.calls() as f64;
-    best.iter()
-        .map(|time| time.as_nanos() as f64 / calls)
+    watches
+        .iter()
+        .map(|watch| watch.best.iter().sum::<Duration>().as_nanos() as f64 / calls)
         .collect()
+}
+
+impl Watch {
+    fn round(&mut self, side: &mut dyn Side, parts: &[Work]) {
+        side.restart();
+        for (part, best) in parts.iter().zip(&mut self.best) {
+            let from = Instant::now();
+            side.run(part);
+            let took = from.elapsed();
+            self.spent += took;
+            *best = took.min(*best);
+        }
+    }
 }
 
 /// Runs the work once on each side and compares.
