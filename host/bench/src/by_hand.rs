@@ -9,24 +9,41 @@ pub struct ByHand {
     start: (plain::Tables, Record),
     tables: plain::Tables,
     record: Record,
+    shape: Shape,
+}
+
+/// How the plain version is written.
+#[derive(Clone, Copy, PartialEq, Eq)]
+pub enum Shape {
+    /// As one would write it first.
+    Natural,
     /// The inner event has the record in and back by value.
-    by_value: bool,
+    ByValue,
+    /// The check looks at unused places many at a time.
+    Wide,
 }
 
 impl ByHand {
-    pub fn new(start: &Tables, by_value: bool) -> ByHand {
+    pub fn new(start: &Tables, shape: Shape) -> ByHand {
         let start = (tables(start), record(start));
         let (tables, record) = start.clone();
         ByHand {
             start,
             tables,
             record,
-            by_value,
+            shape,
+        }
+    }
+
+    fn check(&self) -> u8 {
+        match self.shape {
+            Shape::Wide => plain::check_wide(&self.tables, &self.record),
+            _ => plain::check(&self.tables, &self.record),
         }
     }
 
     fn inner(&mut self, e: &plain::Event) -> plain::Outcome {
-        if !self.by_value {
+        if self.shape != Shape::ByValue {
             return plain::handle(&mut self.tables, &mut self.record, e);
         }
         let record = self.record.clone();
@@ -44,10 +61,7 @@ impl Side for ByHand {
 
     fn run(&mut self, work: &Work) -> u64 {
         match work {
-            Work::Check(times) => sum((0..*times).map(|_| {
-                let side = black_box(&*self);
-                plain::check(&side.tables, &side.record).into()
-            })),
+            Work::Check(times) => sum((0..*times).map(|_| black_box(&*self).check().into())),
             Work::Events(events) => sum(events.iter().map(|e| {
                 let o = plain::event(&mut self.tables, &mut self.record, &event(e));
                 outcome(o.answer, o.moves)

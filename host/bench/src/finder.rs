@@ -1,6 +1,6 @@
 //! The finder, with its check of the record.
 
-use crate::by_hand::ByHand;
+use crate::by_hand::{ByHand, Shape};
 use crate::machines::levels;
 use crate::ours::Ours;
 use crate::second::Second;
@@ -31,7 +31,7 @@ pub fn find(effort: Effort) {
         for (name, level, mask) in questions {
             let mut sides: Vec<Box<dyn Side>> = vec![
                 Box::new(Ours::new(&start)),
-                Box::new(ByHand::new(&start, false)),
+                Box::new(ByHand::new(&start, Shape::Natural)),
                 Box::new(Second::new(&start)),
             ];
             let times = 100;

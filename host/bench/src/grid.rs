@@ -1,6 +1,6 @@
 //! Check, event and inner event over machines of several sizes, and how their cost grows.
 
-use crate::by_hand::ByHand;
+use crate::by_hand::{ByHand, Shape};
 use crate::machines::{mixed, Scene};
 use crate::ours::Ours;
 use crate::second::Second;
@@ -39,17 +39,24 @@ fn measure(
 fn three(scene: &Scene) -> Vec<Box<dyn Side>> {
     vec![
         Box::new(Ours::new(&scene.start)),
-        Box::new(ByHand::new(&scene.start, false)),
+        Box::new(ByHand::new(&scene.start, Shape::Natural)),
         Box::new(Second::new(&scene.start)),
     ]
+}
+
+/// Those, and the plain version with the wide check.
+fn four(scene: &Scene) -> Vec<Box<dyn Side>> {
+    let mut sides = three(scene);
+    sides.push(Box::new(ByHand::new(&scene.start, Shape::Wide)));
+    sides
 }
 
 /// The library, and the plain version with the record by reference and by value.
 pub fn shapes(scene: &Scene) -> Vec<Box<dyn Side>> {
     vec![
         Box::new(Ours::new(&scene.start)),
-        Box::new(ByHand::new(&scene.start, false)),
-        Box::new(ByHand::new(&scene.start, true)),
+        Box::new(ByHand::new(&scene.start, Shape::Natural)),
+        Box::new(ByHand::new(&scene.start, Shape::ByValue)),
     ]
 }
 
@@ -63,7 +70,7 @@ fn bytes(n: usize) -> usize {
 
 pub fn check(effort: Effort) {
     println!("Check of all tables, ns a call\n");
-    let points = measure(effort, three, |_| Work::Check(4));
+    let points = measure(effort, four, |_| Work::Check(4));
     let head = [
         "N",
         "tasks",
@@ -72,6 +79,8 @@ pub fn check(effort: Effort) {
         "library/plain",
         "second",
         "second/library",
+        "plain, wide",
+        "library/it",
         "bytes",
         "bytes/ns",
     ];
@@ -79,6 +88,8 @@ pub fn check(effort: Effort) {
     for p in &points {
         let read = bytes(p.n);
         let mut cells = against_second(p);
+        cells.push(ns(p.times[3]));
+        cells.push(ratio(p.times[0], p.times[3]));
         cells.push(read.to_string());
         cells.push(format!("{:.2}", read as f64 / p.times[0]));
         table.row(cells);

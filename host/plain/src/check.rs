@@ -10,29 +10,47 @@ type Placed = [u64; TASKS / 64];
 
 /// 0, 1 or 2.
 pub fn check(t: &Tables, record: &Record) -> u8 {
+    checked(t, record, |unused| {
+        unused.iter().all(|&place| place == NOTHING)
+    })
+}
+
+/// As `check`, looking at all unused places of a row before it decides, many at a time: 65535 has every bit.
+pub fn check_wide(t: &Tables, record: &Record) -> u8 {
+    checked(t, record, |unused| {
+        unused.iter().fold(NOTHING, |all, &place| all & place) == NOTHING
+    })
+}
+
+/// The check, given what says that all unused places of a row hold nothing.
+fn checked(t: &Tables, record: &Record, empty: impl Fn(&[u16]) -> bool) -> u8 {
     if !t.lengths_fit() {
-        1
-    } else if !well_formed(t, record) {
-        2
-    } else {
+        return 1;
+    }
+    let mut placed = [0; TASKS / 64];
+    let fits = (0..t.n).all(|cpu| row_fits(t, record, cpu, &mut placed, &empty))
+        && columns_fit(t, &placed)
+        && is_consistent(t.n, record);
+    if fits {
         0
+    } else {
+        2
     }
 }
 
-fn well_formed(t: &Tables, record: &Record) -> bool {
-    let mut placed = [0; TASKS / 64];
-    (0..t.n).all(|cpu| row_fits(t, record, cpu, &mut placed))
-        && (0..TASKS).all(|task| task_fits(t, task, &placed))
-        && is_consistent(t.n, record)
-}
-
-fn row_fits(t: &Tables, record: &Record, cpu: usize, placed: &mut Placed) -> bool {
+fn row_fits(
+    t: &Tables,
+    record: &Record,
+    cpu: usize,
+    placed: &mut Placed,
+    empty: impl Fn(&[u16]) -> bool,
+) -> bool {
     let count = t.counts[cpu] as usize;
     if count > TASKS || t.flags[cpu] > 1 {
         return false;
     }
     let (tasks, unused) = t.row(cpu).split_at(count);
-    if !tasks_fit(t, cpu, tasks, placed) || unused.iter().any(|&task| task != NOTHING) {
+    if !tasks_fit(t, cpu, tasks, placed) || !empty(unused) {
         return false;
     }
     let level = match tasks.first() {
@@ -64,23 +82,51 @@ fn tasks_fit(t: &Tables, cpu: usize, tasks: &[u16], placed: &mut Placed) -> bool
     true
 }
 
-/// W1 and W2 of one task, and a runnable one stands in a row whose CPU is allowed.
-fn task_fits(t: &Tables, task: usize, placed: &Placed) -> bool {
-    let (prio, cpu, slice, mask) = (t.prio[task], t.cpu[task], t.slice[task], t.mask[task]);
-    if t.state[task] == FREE {
-        return t.policy[task] == 0 && prio == 0 && cpu == 0 && slice == 0 && mask == 0;
-    }
-    if !(matches!(t.policy[task], 1 | 2)
-        && (1..=99).contains(&prio)
-        && (cpu as usize) < t.n
-        && (1..=FULL_SLICE).contains(&slice)
-        && mask_fits(t.n, mask))
-    {
-        return false;
-    }
-    match t.state[task] {
-        ASLEEP => true,
-        RUNNABLE => placed[task / 64] >> (task % 64) & 1 == 1 && mask >> cpu & 1 == 1,
-        _ => false,
+/// The task columns of a machine of n CPUs, with their lengths known.
+struct Columns<'a> {
+    n: usize,
+    state: &'a [u8; TASKS],
+    policy: &'a [u8; TASKS],
+    prio: &'a [u8; TASKS],
+    cpu: &'a [u8; TASKS],
+    slice: &'a [u16; TASKS],
+    mask: &'a [u64; TASKS],
+}
+
+fn columns_fit(t: &Tables, placed: &Placed) -> bool {
+    let checked = "lengths were checked";
+    let columns = Columns {
+        n: t.n,
+        state: t.state[..].try_into().expect(checked),
+        policy: t.policy[..].try_into().expect(checked),
+        prio: t.prio[..].try_into().expect(checked),
+        cpu: t.cpu[..].try_into().expect(checked),
+        slice: t.slice[..].try_into().expect(checked),
+        mask: t.mask[..].try_into().expect(checked),
+    };
+    (0..TASKS).all(|task| columns.task_fits(task, placed))
+}
+
+impl Columns<'_> {
+    /// W1 and W2 of one task, and a runnable one stands in a row whose CPU is allowed.
+    fn task_fits(&self, task: usize, placed: &Placed) -> bool {
+        let (policy, prio, cpu) = (self.policy[task], self.prio[task], self.cpu[task]);
+        let (slice, mask) = (self.slice[task], self.mask[task]);
+        if self.state[task] == FREE {
+            return policy == 0 && prio == 0 && cpu == 0 && slice == 0 && mask == 0;
+        }
+        let in_range = matches!(policy, 1 | 2)
+            && (1..=99).contains(&prio)
+            && (cpu as usize) < self.n
+            && (1..=FULL_SLICE).contains(&slice)
+            && mask_fits(self.n, mask);
+        match self.state[task] {
+            ASLEEP => in_range,
+            RUNNABLE => {
+                let stands = placed[task / 64] >> (task % 64) & 1 == 1;
+                in_range && stands && mask >> cpu & 1 == 1
+            }
+            _ => false,
+        }
     }
 }

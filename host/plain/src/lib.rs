@@ -14,7 +14,7 @@ pub mod row;
 pub mod settle;
 pub mod tables;
 
-pub use check::check;
+pub use check::{check, check_wide};
 pub use event::{event, handle, handle_by_value, Event, Outcome};
 pub use find::{find, Found};
 pub use record::Record;

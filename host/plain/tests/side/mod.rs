@@ -61,7 +61,10 @@ impl Pair {
         };
         match call {
             Call::MakeFresh => vec![t.make_fresh(record).into()],
-            Call::Check => vec![plain::check(t, record).into()],
+            Call::Check => {
+                assert_eq!(plain::check_wide(t, record), plain::check(t, record));
+                vec![plain::check(t, record).into()]
+            }
             Call::Event(e) => {
                 let o = plain::event(t, record, &event(e));
                 vec![o.answer.into(), o.moves.into()]
