@@ -12,6 +12,11 @@ use binding::{CPUS, LEVELS, TASKS, WORDS};
 const SIZES: [usize; 4] = [1, 4, 16, 64];
 const LOADS: [usize; 3] = [16, 128, 512];
 
+/// Whether the grid has a machine of so many CPUs and tasks.
+pub fn has((n, tasks): (usize, usize)) -> bool {
+    SIZES.contains(&n) && LOADS.contains(&tasks)
+}
+
 /// One machine: CPUs, tasks, and the time of each version.
 struct Point {
     n: usize,
@@ -27,6 +32,9 @@ fn measure(
     let mut points = Vec::new();
     for n in SIZES {
         for tasks in LOADS {
+            if effort.only.is_some_and(|only| only != (n, tasks)) {
+                continue;
+            }
             let scene = mixed(n, tasks);
             let times = time(&mut sides(&scene), &work(&scene), effort);
             points.push(Point { n, tasks, times });
@@ -166,6 +174,9 @@ pub fn shape_cells(times: &[f64]) -> Vec<String> {
 
 /// What a CPU more and a task more cost, from the ends of the grid.
 fn growth(points: &[Point]) {
+    if points.len() < SIZES.len() * LOADS.len() {
+        return;
+    }
     let at = |n, tasks, side: usize| {
         let point = points.iter().find(|p| p.n == n && p.tasks == tasks);
         point.map_or(f64::NAN, |p| p.times[side])

@@ -18,7 +18,7 @@ use std::process::ExitCode;
 use timing::Effort;
 
 const HELP: &str = "\
-bench [--quick] [SECTION...]
+bench [--quick | --once] [--only N,TASKS] [SECTION...]
 
 Times the proved library against the same scheduler in plain Rust and against
 the second scheduler, and prints tables with the time of one call and ratios.
@@ -33,8 +33,10 @@ Sections, all if none is named:
   worst   inner events that cost the most
   find    the finder
 
-  --quick  a few seconds, and less exact
-  --help   this text
+  --quick         a few seconds, and less exact
+  --once          each row once, for a tool that counts instructions
+  --only N,TASKS  of check, event and inner the one row
+  --help          this text
 ";
 
 type Section = (&'static str, fn(Effort));
@@ -47,28 +49,62 @@ const SECTIONS: [Section; 5] = [
     ("find", finder::find),
 ];
 
-fn main() -> ExitCode {
-    let mut effort = Effort::FULL;
-    let mut chosen = Vec::new();
-    for arg in env::args().skip(1) {
-        match SECTIONS.iter().find(|(name, _)| *name == arg) {
-            Some(section) => chosen.push(section),
-            None if arg == "--quick" => effort = Effort::QUICK,
-            None if arg == "--help" => {
-                print!("{HELP}");
-                return ExitCode::SUCCESS;
-            }
-            None => {
-                eprintln!("bench: no section or option '{arg}'; 'bench --help' says more");
-                return ExitCode::from(2);
-            }
+/// What the command line asks for.
+#[derive(Debug)]
+struct Command {
+    help: bool,
+    effort: Effort,
+    sections: Vec<Section>,
+}
+
+fn command(args: impl Iterator<Item = String>) -> Result<Command, String> {
+    let mut args = args;
+    let mut only = None;
+    let mut asked = Command {
+        help: false,
+        effort: Effort::FULL,
+        sections: Vec::new(),
+    };
+    while let Some(arg) = args.next() {
+        match arg.as_str() {
+            "--help" => asked.help = true,
+            "--quick" => asked.effort = Effort::QUICK,
+            "--once" => asked.effort = Effort::ONCE,
+            "--only" => only = Some(size(args.next())?),
+            name => asked.sections.push(section(name)?),
         }
     }
-    if chosen.is_empty() {
-        chosen.extend(&SECTIONS);
+    asked.effort.only = only;
+    if asked.sections.is_empty() {
+        asked.sections.extend(SECTIONS);
     }
-    for (_, section) in chosen {
-        section(effort);
+    Ok(asked)
+}
+
+fn section(name: &str) -> Result<Section, String> {
+    let found = SECTIONS.iter().find(|(known, _)| *known == name);
+    found
+        .copied()
+        .ok_or_else(|| format!("no section or option '{name}'"))
+}
+
+/// N and TASKS of a row.
+fn size(word: Option<String>) -> Result<(usize, usize), String> {
+    let word = word.unwrap_or_default();
+    word.split_once(',')
+        .and_then(|(n, tasks)| Some((n.parse().ok()?, tasks.parse().ok()?)))
+        .filter(|size| grid::has(*size))
+        .ok_or_else(|| format!("--only: no row '{word}'"))
+}
+
+fn main() -> ExitCode {
+    match command(env::args().skip(1)) {
+        Ok(asked) if asked.help => print!("{HELP}"),
+        Ok(asked) => asked.sections.iter().for_each(|(_, run)| run(asked.effort)),
+        Err(message) => {
+            eprintln!("bench: {message}; 'bench --help' says more");
+            return ExitCode::from(2);
+        }
     }
     ExitCode::SUCCESS
 }

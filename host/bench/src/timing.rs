@@ -4,27 +4,36 @@
 use crate::side::{Side, Work};
 use std::time::{Duration, Instant};
 
-/// How long one row of a table may be measured.
-#[derive(Clone, Copy)]
+/// How long one row of a table may be measured, and which machines are.
+#[derive(Clone, Copy, Debug)]
 pub struct Effort {
     pub row: Duration,
     pub most_rounds: usize,
+    /// Only machines of so many CPUs and tasks.
+    pub only: Option<(usize, usize)>,
 }
 
 impl Effort {
     pub const FULL: Effort = Effort {
         row: Duration::from_millis(400),
         most_rounds: 5000,
+        only: None,
     };
     pub const QUICK: Effort = Effort {
         row: Duration::from_millis(30),
         most_rounds: 500,
+        only: None,
+    };
+    pub const ONCE: Effort = Effort {
+        row: Duration::ZERO,
+        most_rounds: 1,
+        only: None,
     };
 }
 
 /// After a side has used this part of a row's time, the others go on without it.
 const SHARE: u32 = 3;
-const FEWEST_ROUNDS: usize = 2;
+const FEWEST_ROUNDS: usize = 3;
 
 /// One side's shortest time for each part of the work, and what it has spent.
 struct Watch {
