@@ -1,4 +1,8 @@
 //! Links the event without its check of the tables, which `scripts/build` writes to target/staticlib.
+//!
+//! BENCH_SEED=NUMBER puts the functions of the benchmark into another order. Where a short loop lies can double
+//! its time, so that one order alone says little.
+use std::env;
 use std::path::Path;
 
 fn main() {
@@ -10,4 +14,9 @@ fn main() {
     );
     println!("cargo:rustc-link-search=native={}", archives.display());
     println!("cargo:rustc-link-lib=static=inner");
+
+    println!("cargo:rerun-if-env-changed=BENCH_SEED");
+    if let Ok(seed) = env::var("BENCH_SEED") {
+        println!("cargo:rustc-link-arg-bins=-Wl,--shuffle-sections=.text*={seed}");
+    }
 }
