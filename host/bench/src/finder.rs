@@ -1,18 +1,19 @@
 //! The finder, with its check of the record.
 
 use crate::by_hand::{ByHand, Shape};
-use crate::machines::levels;
+use crate::machines::{busy, idle};
 use crate::ours::Ours;
 use crate::second::Second;
 use crate::side::{Side, Work};
 use crate::table::{ns, ratio, Table};
 use crate::timing::{time, Effort};
+use binding::Tables;
 
 pub fn find(effort: Effort) {
     println!("Finder, ns a question\n");
     let head = [
         "N",
-        "lowest level",
+        "level found",
         "library",
         "plain",
         "library/plain",
@@ -21,22 +22,13 @@ pub fn find(effort: Effort) {
     ];
     let mut table = Table::new(&head);
     for n in [1, 4, 16, 64] {
-        let start = levels(n);
-        let last = n as u32 - 1;
         let questions = [
-            ("38, the first", 101, u64::MAX >> (64 - n)),
-            ("of the last CPU", 101, 1 << last),
-            ("none", 38 + last, 1 << last),
+            ("0", idle(n), 101, u64::MAX >> (64 - n)),
+            ("100", busy(n), 101, 1),
+            ("none", busy(n), 100, 1),
         ];
-        for (name, level, mask) in questions {
-            let mut sides: Vec<Box<dyn Side>> = vec![
-                Box::new(Ours::new(&start)),
-                Box::new(ByHand::new(&start, Shape::Natural)),
-                Box::new(Second::new(&start)),
-            ];
-            let times = 100;
-            let work = Work::Find { times, level, mask };
-            let t = time(&mut sides, &work, effort);
+        for (name, start, level, mask) in questions {
+            let t = ask(&start, level, mask, effort);
             table.row(vec![
                 n.to_string(),
                 name.to_string(),
@@ -49,4 +41,15 @@ pub fn find(effort: Effort) {
         }
     }
     table.print();
+}
+
+/// The time of one question, for each version.
+fn ask(start: &Tables, level: u32, mask: u64, effort: Effort) -> Vec<f64> {
+    let mut sides: Vec<Box<dyn Side>> = vec![
+        Box::new(Ours::new(start)),
+        Box::new(ByHand::new(start, Shape::Natural)),
+        Box::new(Second::new(start)),
+    ];
+    let times = 100;
+    time(&mut sides, &Work::Find { times, level, mask }, effort)
 }

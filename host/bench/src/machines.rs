@@ -165,11 +165,16 @@ pub fn yields() -> Scene {
     }
 }
 
-/// CPU c runs priority 36 + c, so that the lowest CPU of a mask stands at level 38 + c.
-pub fn levels(n: usize) -> Tables {
+/// All n CPUs idle.
+pub fn idle(n: usize) -> Tables {
+    fresh(n)
+}
+
+/// CPU c runs priority 98 - c, so that CPU 0 stands at level 100, the highest that a search can find.
+pub fn busy(n: usize) -> Tables {
     let mut t = fresh(n);
     for c in 0..n {
-        put(&mut t, c, 1, 36 + c, 1 << c);
+        put(&mut t, c, 1, 98 - c, 1 << c);
     }
     t
 }

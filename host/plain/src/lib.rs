@@ -4,6 +4,8 @@
 //! The CPU-priority record is changed in place, through a reference. `handle_by_value` hands it in and back
 //! whole, as the library does.
 
+#![forbid(unsafe_code)]
+
 pub mod check;
 pub mod consistent;
 pub mod effect;
