@@ -3,6 +3,7 @@
 use crate::by_hand::{ByHand, Shape};
 use crate::machines::{busy, idle};
 use crate::ours::Ours;
+use crate::say::say;
 use crate::second::Second;
 use crate::side::{Side, Work};
 use crate::table::{ns, ratio, Table};
@@ -10,7 +11,7 @@ use crate::timing::{time, Effort};
 use binding::Tables;
 
 pub fn find(effort: Effort) {
-    println!("Finder, ns a question\n");
+    say("Finder, ns a question\n");
     let head = [
         "N",
         "level found",

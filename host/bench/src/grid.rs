@@ -3,6 +3,7 @@
 use crate::by_hand::{ByHand, Shape};
 use crate::machines::{mixed, Scene};
 use crate::ours::Ours;
+use crate::say::say;
 use crate::second::Second;
 use crate::side::{Side, Work};
 use crate::table::{ns, ratio, Table};
@@ -77,7 +78,7 @@ fn bytes(n: usize) -> usize {
 }
 
 pub fn check(effort: Effort) {
-    println!("Check of all tables, ns a call\n");
+    say("Check of all tables, ns a call\n");
     let points = measure(effort, four, |_| Work::Check(4));
     let head = [
         "N",
@@ -107,7 +108,7 @@ pub fn check(effort: Effort) {
 }
 
 pub fn event(effort: Effort) {
-    println!("Event with its check of all tables, a mix of events, ns an event\n");
+    say("Event with its check of all tables, a mix of events, ns an event\n");
     let points = measure(effort, three, |scene| Work::Events(scene.events.clone()));
     let head = [
         "N",
@@ -140,7 +141,7 @@ fn against_second(p: &Point) -> Vec<String> {
 }
 
 pub fn inner(effort: Effort) {
-    println!("Inner event (tables not checked), the same mix, ns an event\n");
+    say("Inner event (tables not checked), the same mix, ns an event\n");
     let points = measure(effort, shapes, |scene| Work::Inner(scene.events.clone()));
     let head = [
         "N",
@@ -186,9 +187,9 @@ fn growth(points: &[Point]) {
         let cpu = (at(64, few, side) - at(1, few, side)) / 63.0;
         let spread = (at(64, many, side) - at(64, few, side)) / (many - few) as f64;
         let piled = (at(1, many, side) - at(1, few, side)) / (many - few) as f64;
-        println!(
+        say(&format!(
             "{name}: {cpu:.1} ns for a CPU more (16 tasks); {spread:.1} ns for a task more on 64 CPUs, {piled:.1} ns on one"
-        );
+        ));
     }
-    println!();
+    say("");
 }

@@ -7,12 +7,14 @@ mod inner;
 mod machines;
 mod ours;
 mod rng;
+mod say;
 mod second;
 mod side;
 mod table;
 mod timing;
 mod worst;
 
+use say::say;
 use std::env;
 use std::process::ExitCode;
 use timing::Effort;
@@ -36,8 +38,7 @@ Sections, all if none is named:
   --quick         a few seconds, and less exact
   --once          each row once, for a tool that counts instructions
   --only N,TASKS  of check, event and inner the one row
-  --help          this text
-";
+  --help          this text";
 
 type Section = (&'static str, fn(Effort));
 
@@ -99,7 +100,7 @@ fn size(word: Option<String>) -> Result<(usize, usize), String> {
 
 fn main() -> ExitCode {
     match command(env::args().skip(1)) {
-        Ok(asked) if asked.help => print!("{HELP}"),
+        Ok(asked) if asked.help => say(HELP),
         Ok(asked) => asked.sections.iter().for_each(|(_, run)| run(asked.effort)),
         Err(message) => {
             eprintln!("bench: {message}; 'bench --help' says more");

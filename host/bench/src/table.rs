@@ -1,5 +1,7 @@
 //! A table of text, as in a Markdown page.
 
+use crate::say::say;
+
 pub struct Table {
     rows: Vec<Vec<String>>,
 }
@@ -21,12 +23,12 @@ impl Table {
             .map(|most| most.unwrap_or(0))
             .collect();
         for (i, row) in self.rows.iter().enumerate() {
-            println!("{}", line(row, &widths));
+            say(&line(row, &widths));
             if i == 0 {
-                println!("{}", rule(&widths));
+                say(&rule(&widths));
             }
         }
-        println!();
+        say("");
     }
 }
 

@@ -2,12 +2,13 @@
 
 use crate::grid::{shape_cells, shapes};
 use crate::machines::{chain, full_row, yields, Scene};
+use crate::say::say;
 use crate::side::Work;
 use crate::table::Table;
 use crate::timing::{time, Effort};
 
 pub fn worst(effort: Effort) {
-    println!("Inner event, worst cases, ns an event\n");
+    say("Inner event, worst cases, ns an event\n");
     let head = [
         "case",
         "library",
