@@ -241,6 +241,18 @@ static inline int qoriwesh_machine_event(struct qoriwesh_machine *m,
 	return answer ? -(int)answer : (int)moves;
 }
 
+/* 0 with what was found, or a refusal's number, negative. */
+static inline int qoriwesh_machine_find(const struct qoriwesh_machine *m,
+					uint32_t level, uint64_t mask,
+					uint8_t *found_level, uint64_t *found_mask)
+{
+	return -(int)qoriwesh_find(m->cpus, m->level_masks, QORIWESH_LEVELS,
+				   m->level_counts, QORIWESH_LEVELS,
+				   m->level_words, QORIWESH_WORDS,
+				   m->levels, QORIWESH_CPUS,
+				   level, mask, found_level, found_mask);
+}
+
 #ifdef __cplusplus
 }
 #endif

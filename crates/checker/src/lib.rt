@@ -1,5 +1,4 @@
 // The tables that a caller lends: made fresh, and checked. A check passes once over each table.
 pub mod check;
-pub mod fill;
 pub mod fresh;
 pub mod sizes;

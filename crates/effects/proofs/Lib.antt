@@ -4,5 +4,3 @@ pub mod Accepted
 pub mod Steady
 pub mod Placing
 pub mod Requeueing
-pub mod Ticking
-pub mod Dispatching

@@ -12,8 +12,8 @@ use Rattle.rules.specs.Machine.{Machine, row, levels, taskPlaces}
 use Rattle.rules.specs.Tables.{flatOf, rowCounts}
 use Rattle.rules.specs.WellFormed.{WellFormed}
 use Rattle.rules.specs.Events.{Event, Kind, wake, sleep, set-priority, set-affinity, tick, yield, set-ordinary}
-use Rattle.rules.specs.Refusals.{firstFailing, checks, refusal}
-use Rattle.effects.specs.After.{after, applied}
+use Rattle.rules.specs.Refusals.{firstFailing, checks}
+use Rattle.effects.specs.After.{after}
 
 -- ---- kinds 1 and 2: the six columns
 
@@ -165,18 +165,3 @@ pub record Flagged (m : Machine) (e : Event) (a : ℕ) (fs : List ℕ) (r : Reco
   pub answer : a ≡ firstFailing (checks m e set-ordinary)
   pub flags : fs ≡ after set-ordinary e m .flags
   pub levels : r ≡ recordOf (levels (after set-ordinary e m))
-
--- ---- any kind: all nine tables
-
-pub record LentAll (m : Machine) (n : ℕ) (ss ps qs cs ls ks flat ns fs : List ℕ) (r : Record) : Type 0 where
-  pub formed : WellFormed m
-  pub cpus : n ≡ m .n
-  pub columns : Columns m ss ps qs cs ls ks
-  pub placed : Placed m flat ns r
-  pub flags : fs ≡ m .flags
-
-pub record Answered (m : Machine) (e : Event) (a : ℕ) (ss ps qs cs ls ks flat ns fs : List ℕ) (r : Record) : Type 0 where
-  pub answer : a ≡ refusal m e
-  pub columns : Columns (applied e m) ss ps qs cs ls ks
-  pub placed : Placed (applied e m) flat ns r
-  pub flags : fs ≡ applied e m .flags

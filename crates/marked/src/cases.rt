@@ -1,4 +1,4 @@
-// Cases beyond the marked examples: the longest chain, the other refusals, tables that are damaged.
+// Cases beyond the marked examples: the longest chain, the order of movers, the other refusals, tables that are damaged.
 use super::print;
 use super::tables::Tables;
 
@@ -9,11 +9,28 @@ pub fn chain() {
     let mut t = Tables::fresh(64);
     let mut c = 0u32;
     while c < 63 {
-        t = t.change(1, c, 1, 90 - c, 3 << c, false);
-        t = t.change(3, c, 0, 0, 0, false);
+        t = t.change(1, c, 1, 90 - c, 3 << c);
+        t = t.change(3, c, 0, 0, 0);
         c += 1;
     }
     t.add(63, 99, 1).wake(63);
+}
+
+// Tasks 2 and 3 wait on two CPUs when CPU 2 falls idle: the higher one moves, and the lower one then stays.
+pub fn two_wait() {
+    print::text(b"Two wait\n");
+    Tables::fresh(3)
+        .add(0, 50, 1)
+        .add(1, 45, 2)
+        .add(2, 40, 5)
+        .add(3, 30, 6)
+        .add(4, 60, 4)
+        .wake(4)
+        .wake(0)
+        .wake(1)
+        .wake(2)
+        .wake(3)
+        .sleep(4);
 }
 
 // Kinds 0 and 10, policies 0 and 3, and with N 63 the masks of CPUs 62 and 63.
@@ -53,5 +70,20 @@ pub fn damaged() {
     t.check();
     t = whole;
     t.flags[1] = 1;
-    t.check().event(8, 0, 0, 0, 0);
+    t.check().yields(0);
+}
+
+// Two equal tasks: the first yields, then goes to sleep and away.
+pub fn yield_and_remove() {
+    print::text(b"Yield and remove\n");
+    let t = Tables::fresh(1).add(0, 50, 1).add(1, 50, 1).wake(0).wake(1);
+    t.yields(0).sleep(0).remove(0);
+}
+
+// One CPU, and tables of two.
+pub fn wrong_length() {
+    print::text(b"Wrong length\n");
+    let mut t = Tables::fresh(1).add(0, 50, 1);
+    t.lent = 2;
+    t.wake(0);
 }

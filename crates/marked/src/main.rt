@@ -38,8 +38,11 @@ fn main() {
         .priority(0, 30);
     k12();
     cases::chain();
+    cases::two_wait();
     cases::refusals();
     cases::damaged();
+    cases::yield_and_remove();
+    cases::wrong_length();
 }
 
 // Two tasks that may use both CPUs; the higher one wakes last.
@@ -78,7 +81,7 @@ fn k9() {
         .wake(1);
     let mut ticks = 0u32;
     while ticks < 98 {
-        t = t.change(7, 0, 0, 0, 0, false);
+        t = t.change(7, 0, 0, 0, 0);
         ticks += 1;
     }
     t.event(7, 0, 0, 0, 0).event(7, 0, 0, 0, 0);
@@ -98,6 +101,6 @@ fn k12() {
         .priority(0, 100)
         .allow(0, 0)
         .allow(0, 4)
-        .event(8, 1, 0, 0, 0);
+        .yields(1);
     Tables::fresh(64).add(511, 1, 1).priority(511, 99).wake(511);
 }

@@ -1,22 +1,34 @@
 // A machine's tables with its record, and events on them that print what they answer.
 use super::print;
+use checker::fresh::Made;
 use cpupri::record::Record;
+use machine::Outcome;
+use rules::answer::ACCEPTED;
+use rules::answer::BAD_SIZE;
 
 pub struct Tables {
     pub n: u8,
+    // rows, counts and flags are lent for this many CPUs; anything but n is a wrong length
+    pub lent: u8,
     pub state: [u8; 512],
     pub policy: [u8; 512],
     pub prio: [u8; 512],
     pub cpu: [u8; 512],
     pub slice: [u16; 512],
     pub mask: [u64; 512],
-    // the first n of 65 rows are the machine's, and so with the counts and flags
+    // the first of 65 rows are lent, and so with the counts and flags
     pub rows: [u16; 33280],
     pub counts: [u16; 65],
     pub flags: [u8; 65],
     pub log: [u16; 189],
     pub record: Record,
+    // of the last call
+    pub answer: u8,
+    pub moves: u32,
 }
+
+// The kind of event that adds a task.
+const ADD: u32 = 1;
 
 impl Tables {
     // A fresh machine of n CPUs, with the answer of the maker printed.
@@ -44,8 +56,11 @@ impl Tables {
             &mut flags,
             &mut log,
         );
+        print::made(n, made.answer);
+        let record = made.record;
         Tables {
             n,
+            lent: n,
             state,
             policy,
             prio,
@@ -56,18 +71,24 @@ impl Tables {
             counts,
             flags,
             log,
-            record: made,
+            record,
+            answer: made.answer,
+            moves: 0,
         }
     }
 
     // One event, printed with its answer.
     pub fn event(self, kind: u32, who: u32, a: u32, b: u32, k: u64) -> Tables {
-        self.change(kind, who, a, b, k, true)
+        let t = self.change(kind, who, a, b, k);
+        print::asked(kind, who, a, b, k);
+        t.told(kind);
+        t
     }
 
-    // One event; told: printed with its answer.
-    pub fn change(self, kind: u32, who: u32, a: u32, b: u32, k: u64, told: bool) -> Tables {
+    // One event.
+    pub fn change(self, kind: u32, who: u32, a: u32, b: u32, k: u64) -> Tables {
         let n = self.n;
+        let lent = self.lent;
         let mut state = self.state;
         let mut policy = self.policy;
         let mut prio = self.prio;
@@ -79,8 +100,9 @@ impl Tables {
         let mut flags = self.flags;
         let mut log = self.log;
         let old = self.record;
-        let record = handle(
+        let o = handle(
             n,
+            lent,
             &mut state,
             &mut policy,
             &mut prio,
@@ -97,10 +119,11 @@ impl Tables {
             b,
             k,
             old,
-            told,
         );
+        let record = o.record;
         Tables {
             n,
+            lent,
             state,
             policy,
             prio,
@@ -112,7 +135,33 @@ impl Tables {
             flags,
             log,
             record,
+            answer: o.answer,
+            moves: o.moves,
         }
+    }
+
+    // The answer to an event of this kind, and the tables after it unless it was refused or an add.
+    fn told(self, kind: u32) {
+        let log = self.log;
+        print::answered(self.answer, self.moves, &log);
+        if self.answer == ACCEPTED && kind != ADD {
+            self.shown();
+        }
+    }
+
+    // The rows, counts and levels of the CPUs, and the tasks.
+    fn shown(self) {
+        let rows = self.rows;
+        let counts = self.counts;
+        print::rows(self.n, &rows, &counts);
+        print::counts(self.n, &counts);
+        let record = self.record;
+        let levels = record.levels;
+        print::levels(self.n, &levels);
+        let state = self.state;
+        let cpu = self.cpu;
+        let slice = self.slice;
+        print::tasks(&state, &cpu, &slice);
     }
 
     // The check of the tables, with its answer printed.
@@ -128,7 +177,7 @@ impl Tables {
         let flags = self.flags;
         let log = self.log;
         let record = self.record;
-        test(
+        let answer = test(
             self.n,
             &state,
             &policy,
@@ -142,12 +191,17 @@ impl Tables {
             &log,
             record,
         );
+        print::checked(answer);
         self
     }
 
     // A FIFO task, added asleep.
     pub fn add(self, task: u32, priority: u32, mask: u64) -> Tables {
-        self.event(1, task, 1, priority, mask)
+        self.event(ADD, task, 1, priority, mask)
+    }
+
+    pub fn remove(self, task: u32) -> Tables {
+        self.event(2, task, 0, 0, 0)
     }
 
     pub fn wake(self, task: u32) -> Tables {
@@ -166,12 +220,16 @@ impl Tables {
         self.event(6, task, 0, 0, mask)
     }
 
+    pub fn yields(self, cpu: u32) -> Tables {
+        self.event(8, cpu, 0, 0, 0)
+    }
+
     pub fn ordinary(self, cpu: u32, flag: u32) -> Tables {
         self.event(9, cpu, 0, flag, 0)
     }
 }
 
-// The fresh record, or an idle one of no CPU where the maker refuses.
+// A fresh machine in its part of the tables.
 fn make(
     n: u8,
     state: &mut [u8],
@@ -184,14 +242,17 @@ fn make(
     counts: &mut [u16],
     flags: &mut [u8],
     log: &mut [u16],
-) -> Record {
+) -> Made {
     let cpus = n as usize;
     let places = 512 * cpus;
     let none = Record::fresh(0);
     if places > rows.len() || cpus > counts.len() || cpus > flags.len() {
-        return none;
+        return Made {
+            answer: BAD_SIZE,
+            record: none,
+        };
     }
-    let made = checker::fresh::make_fresh(
+    checker::fresh::make_fresh(
         cpus,
         state,
         policy,
@@ -204,15 +265,13 @@ fn make(
         &mut flags[..cpus],
         log,
         none,
-    );
-    print::made(n, made.answer);
-    made.record
+    )
 }
 
-// One event on the machine's part of the tables. Told: its answer is printed, and the tables after it
-// unless it was refused or an add.
+// One event, with the rows, counts and flags of `lent` CPUs.
 fn handle(
     n: u8,
+    lent: u8,
     state: &mut [u8],
     policy: &mut [u8],
     prio: &mut [u8],
@@ -229,15 +288,18 @@ fn handle(
     b: u32,
     k: u64,
     record: Record,
-    told: bool,
-) -> Record {
-    let cpus = n as usize;
+) -> Outcome {
+    let cpus = lent as usize;
     let places = 512 * cpus;
     if places > rows.len() || cpus > counts.len() || cpus > flags.len() {
-        return record;
+        return Outcome {
+            answer: BAD_SIZE,
+            moves: 0,
+            record,
+        };
     }
-    let o = machine::event(
-        cpus,
+    machine::event(
+        n as usize,
         state,
         policy,
         prio,
@@ -254,20 +316,7 @@ fn handle(
         b,
         k,
         record,
-    );
-    let after = o.record;
-    let levels = after.levels;
-    if told {
-        print::asked(kind, who, a, b, k);
-        print::answered(o.answer, o.moves, log);
-    }
-    if told && o.answer == 0 && kind != 1 {
-        print::rows(n, rows, counts);
-        print::counts(n, counts);
-        print::levels(n, &levels);
-        print::tasks(state, cpu, slice);
-    }
-    after
+    )
 }
 
 // The check of the machine's part of the tables.
@@ -284,13 +333,13 @@ fn test(
     flags: &[u8],
     log: &[u16],
     record: Record,
-) {
+) -> u8 {
     let cpus = n as usize;
     let places = 512 * cpus;
     if places > rows.len() || cpus > counts.len() || cpus > flags.len() {
-        return;
+        return BAD_SIZE;
     }
-    let answer = checker::check::check(
+    checker::check::check(
         cpus,
         state,
         policy,
@@ -303,6 +352,5 @@ fn test(
         &flags[..cpus],
         log,
         record,
-    );
-    print::checked(answer);
+    )
 }

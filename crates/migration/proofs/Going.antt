@@ -19,10 +19,10 @@ use Rattle.rules.specs.WellFormed.{WellFormed}
 use Rattle.rules.proofs.Log.{length-logged}
 use Rattle.rules.proofs.Tables.{length-flat}
 use Rattle.placement.specs.Held.{Held}
-use Rattle.migration.specs.Foremost.{Looking, Foremost, BestOf}
+use Rattle.mover.specs.Foremost.{Looking, Foremost, BestOf}
 use Rattle.migration.specs.Settling.{Settling, Ended}
-use Rattle.migration.specs.declared.pick.Mover.{Mover}
-use Rattle.migration.proofs.Choose.{none-next, best-next, mover-fit, mover-found}
+use Rattle.mover.specs.declared.pick.Mover.{Mover}
+use Rattle.mover.proofs.Choose.{none-next, best-next, mover-fit, mover-found}
 use Rattle.migration.proofs.Entries.{logged-snoc}
 use Rattle.migration.proofs.Taken.{Taken, begin, onto, taken-well, taken-few, taken-n, taken-all}
 

@@ -1,5 +1,3 @@
 // The migration steps after an event: the highest movable task goes to one of its allowed CPUs of the
 // lowest level, until no task is movable.
-pub mod pick;
-pub mod scan;
 pub mod settle;

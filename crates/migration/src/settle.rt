@@ -10,11 +10,11 @@ ghost use Rattle.rules.specs.Migration.{settled};
 ghost use Rattle.rules.specs.Tables.{logPlaces};
 ghost use Rattle.placement.specs.Held.{Held};
 ghost use Rattle.migration.specs.Settling.{Settling, Stepping, Ended};
-use super::pick::pick;
 use cpupri::find::Found;
 use cpupri::level::Level;
 use cpupri::record::LEVELS;
 use cpupri::record::Record;
+use mover::pick::pick;
 
 // How many steps were taken, and the record with which they end.
 pub struct Steps {

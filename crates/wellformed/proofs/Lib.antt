@@ -1,6 +1,4 @@
 -- The laws behind the passes. `Whole` has what they decide together with the record's own test.
-pub mod Saying
-pub mod Marking
 pub mod Sound
 pub mod Standing
 pub mod Whole

@@ -11,7 +11,7 @@ use Rattle.rules.specs.Machine.{Task, free, asleep, runnable, fifo, rr, lowestP
 use Rattle.cpupri.specs.Found.{maskFits}
 use Rattle.rules.specs.WellFormed.{zeros, fits}
 use Rattle.rules.proofs.Bools.{both}
-use Rattle.wellformed.specs.Placed.{soundWhen}
+use Rattle.wellformed.specs.Passes.{soundWhen}
 
 module _ (placed : Bool) (n : ℕ) (τ : Task) where
   abbrev rest : Bool

@@ -14,7 +14,8 @@ use Rattle.bits.specs.Bit.{bit, digit}
 use Rattle.bits.proofs.Word.{bit-of-zero}
 use Rattle.rules.specs.Lists.{occ}
 use Rattle.rules.specs.Machine.{taskPlaces}
-use Rattle.wellformed.specs.Placed.{setWords, marked, mark, part, queue, standings}
+use Rattle.rowcheck.specs.Placed.{setWords, marked, mark}
+use Rattle.wellformed.specs.Passes.{part, queue, standings}
 
 -- the empty set
 pub mark-none : (u : ℕ) → mark (replicate setWords 0) u ≡ 0

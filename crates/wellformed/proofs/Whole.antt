@@ -26,8 +26,9 @@ use Rattle.rules.proofs.Apart.{standing-home, standing-away, standing-means, st
 use Rattle.rules.proofs.Test.{each-at, at-each, each-in, tasks-length, tasks-at, shape-shaped, test-well-formed}
 use Rattle.rules.proofs.Tables.{row-at, test-stored, stored-test}
 use Rattle.rules.proofs.Record.{length-levels, levels-below, levels-above}
-use Rattle.wellformed.specs.Placed.{marked, mark, above, Rows, part, queue, standings, soundWhen, Columns}
-use Rattle.wellformed.proofs.Marking.{digit-le}
+use Rattle.rowcheck.specs.Placed.{marked, mark, above}
+use Rattle.wellformed.specs.Passes.{Rows, part, queue, standings, soundWhen, Columns}
+use Rattle.rowcheck.proofs.Marking.{digit-le}
 use Rattle.wellformed.proofs.Standing.{standings-next, standings-grows}
 
 -- ---- tests

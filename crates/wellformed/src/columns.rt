@@ -3,11 +3,11 @@ ghost use mathlib.Core.Path.{_≡_};
 ghost use Prim.Native.Nat.{_≤_};
 ghost use lib.ListN.{length};
 ghost use Rattle.rules.specs.Machine.{taskPlaces, cpuPlaces};
-ghost use Rattle.wellformed.specs.Says.{Says};
-ghost use Rattle.wellformed.specs.Placed.{task, rangesFit, soundWhen, Columns};
-use super::marks;
-use super::marks::WORDS;
+ghost use Rattle.rowcheck.specs.Says.{Says};
+ghost use Rattle.wellformed.specs.Passes.{task, rangesFit, soundWhen, Columns};
 use cpupri::find::mask_fits;
+use rowcheck::marks;
+use rowcheck::marks::WORDS;
 use rules::task;
 use runqueue::row::PLACES;
 

@@ -2,5 +2,4 @@
 // in itself: one pass over the rows and one over the task columns. Which tasks stand in rows is kept in
 // a set of 512 bits, so no task is searched for.
 pub mod columns;
-pub mod marks;
 pub mod rows;

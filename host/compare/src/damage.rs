@@ -146,7 +146,7 @@ fn other_value(rng: &mut Rng, old: u64) -> u64 {
         2 => old ^ (1 << rng.below(64)),
         3 => old ^ (1 << rng.below(8)),
         4 => rng.pick(&EDGES),
-        _ => rng.next() >> rng.below(64),
+        _ => rng.bits() >> rng.below(64),
     }
 }
 
@@ -200,24 +200,28 @@ pub fn wrong_number(rng: &mut Rng, t: &Tables) -> Damage {
             cpu,
             prio: rng.within(0, 100) as u8,
         },
-        8 => word_bit(rng),
+        8 => word_bit(rng, t),
         9..=12 => task_column(rng, t),
         _ => other_number(rng, t),
     }
 }
 
-/// One of the word bits 102 to 127.
-fn word_bit(rng: &mut Rng) -> Damage {
+/// One of the word bits 102 to 127 too many, or another bit changed.
+fn word_bit(rng: &mut Rng, t: &Tables) -> Damage {
+    let (index, bit) = match rng.percent(70) {
+        true => (1, rng.within(102, 127) % 64),
+        false => (rng.below(2), rng.below(64)),
+    };
     Damage::Set {
         table: 12,
-        index: 1,
-        value: rng.next() >> rng.below(27),
+        index,
+        value: t.level_words[index] ^ (1 << bit),
     }
 }
 
 /// A column of a place that has a task, or of the one after it.
 fn task_column(rng: &mut Rng, t: &Tables) -> Damage {
-    let table = rng.below(6);
+    let table = rng.pick(&[0, 1, 2, 3, 4, 5, 5]);
     let used: Vec<usize> = (0..TASKS).filter(|&i| t.state[i] != 0).collect();
     let index = match used.is_empty() {
         true => rng.below(TASKS),
@@ -245,7 +249,7 @@ fn at_limit(rng: &mut Rng, t: &Tables, column: usize, task: usize) -> u64 {
         2 => rng.pick(&[0, 1, 99, 100]),
         3 => rng.pick(&[0, n - 1, n, 255]),
         4 => rng.pick(&[0, 1, 100, 101]),
-        _ => rng.pick(&[0, old | past, old & !own, old | own, own]),
+        _ => rng.pick(&[0, old | past, old & !own, old & !own, own]),
     }
 }
 
@@ -293,7 +297,7 @@ pub fn other_n(rng: &mut Rng, n: usize) -> usize {
     ];
     match rng.percent(80) {
         true => rng.pick(&edges),
-        false => rng.next() as usize >> rng.below(64),
+        false => rng.bits() as usize >> rng.below(64),
     }
 }
 

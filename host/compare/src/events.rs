@@ -25,13 +25,13 @@ pub fn plausible(rng: &mut Rng, t: &Tables, style: &Style, pool: &[u16]) -> Even
         Some(1) => rng.pick(&[2, 3, 3, 3, 3, 3, 3, 5, 6]),
         _ => rng.pick(&[3, 4, 4, 4, 5, 5, 5, 6, 6, 6]),
     };
-    let junk = rng.next();
+    let junk = rng.bits();
     let mut e = Event {
         kind,
         who: u32::from(who),
         a: junk as u32,
         b: (junk >> 32) as u32,
-        mask: rng.next() >> rng.below(64),
+        mask: rng.bits() >> rng.below(64),
     };
     match kind {
         1 => e.a = u32::from(style.policy(rng)),
@@ -136,7 +136,7 @@ fn edge(rng: &mut Rng, old: u32, n: usize) -> u32 {
         1 => old.wrapping_add(65536),
         2 => n as u32,
         3 => n as u32 - 1,
-        4 => rng.next() as u32,
+        4 => rng.bits() as u32,
         _ => rng.pick(&EDGES),
     }
 }
@@ -150,7 +150,7 @@ fn edge_mask(rng: &mut Rng, n: usize) -> u64 {
         3 => full(n) | past,
         4 => u64::MAX,
         5 => 1 << 63,
-        _ => rng.next(),
+        _ => rng.bits(),
     }
 }
 
@@ -163,7 +163,7 @@ pub fn find(rng: &mut Rng, n: usize) -> Call {
     };
     let mask = match rng.percent(20) {
         true => edge_mask(rng, n),
-        false => rng.next() & full(n),
+        false => rng.bits() & full(n),
     };
     Call::Find(level, mask)
 }

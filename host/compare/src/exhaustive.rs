@@ -1,8 +1,10 @@
 //! Mode exhaustive: every event on every machine of a small size, and on every machine that events lead to.
 
 use crate::call::Call;
-use crate::case::{Case, Failure};
+use crate::case::{Case, Failure, Origin};
 use crate::counters::Counters;
+use crate::damage::Damage;
+use crate::generate::full;
 use crate::pair::Pair;
 use crate::plan::Plan;
 use crate::universe::Size;
@@ -35,9 +37,12 @@ pub const REACH_FULL: &[Size] = &[
 ];
 
 /// Every machine that wakes, sleeps, ticks and yields lead to, from any priorities and masks.
-pub const RUN_QUICK: &[Size] = &[size(2, 3, &[10, 20, 30], &[1], &[100], false)];
+pub const RUN_QUICK: &[Size] = &[
+    size(2, 3, &[10, 20, 30], &[1], &[100], false),
+    size(3, 3, &[10, 20], &[1], &[100], false),
+];
 
-pub const RUN_FULL: &[Size] = &[size(3, 3, &[10, 20], &[1], &[100], false)];
+pub const RUN_FULL: &[Size] = &[size(3, 3, &[10, 20, 30], &[1], &[100], false)];
 
 const fn size(
     n: usize,
@@ -84,13 +89,15 @@ fn every_event(
 ) -> Option<Failure> {
     let start = Pair::new(plan.tables(), mutant);
     counters.cases += 1;
+    let mut pair = start.clone();
     for &call in calls.iter().filter(|call| tells(plan, call)) {
-        let mut pair = start.clone();
         match pair.call(call) {
             Ok(answer) => {
                 counters.count(call, answer);
+                // A refused call has left the pair as it was.
                 if answer.number == 0 {
                     next(Plan::read(&pair.ours));
+                    pair = start.clone();
                 }
             }
             Err(difference) => {
@@ -99,18 +106,19 @@ fn every_event(
                     damage: Vec::new(),
                     calls: vec![call],
                 };
-                return Some(Failure {
-                    mode: "exhaustive",
-                    from: None,
-                    mutant,
-                    case,
-                    calls: counters.calls + 1,
-                    difference,
-                });
+                return Some(origin(mutant).failure(case, counters, difference));
             }
         }
     }
     None
+}
+
+fn origin(mutant: Mutant) -> Origin {
+    Origin {
+        mode: "exhaustive",
+        from: None,
+        mutant,
+    }
 }
 
 /// Whether a call can show something that another of the same machine does not: an add to a place in use, and a
@@ -166,6 +174,34 @@ pub fn run_on(
     let runs = |call: &Call| matches!(call, Call::Event(e) if matches!(e.kind, 3 | 4 | 7 | 8));
     let calls: Vec<Call> = calls_of(size).into_iter().filter(runs).collect();
     search(size.settings(), &calls, size, limit, mutant, counters)
+}
+
+/// The finder with every level and every mask, on every record of up to three CPUs with these levels.
+pub fn finder(mutant: Mutant, counters: &mut Counters) -> Option<Failure> {
+    const LEVELS: [u8; 6] = [0, 1, 3, 63, 64, 101];
+    let questions = |n: usize| {
+        let masks = move |level| (0..=full(n) + 1).map(move |mask| Call::Find(level, mask));
+        (0..=103).flat_map(masks).collect::<Vec<Call>>()
+    };
+    for n in 1..=3u32 {
+        let calls = questions(n as usize);
+        for code in 0..LEVELS.len().pow(n) {
+            let level = |cpu: u32| LEVELS[code / LEVELS.len().pow(cpu) % LEVELS.len()];
+            let relevel = |cpu: u32| Damage::Relevel {
+                cpu: cpu as usize,
+                level: level(cpu),
+            };
+            let case = Case {
+                plan: Plan::empty(n as usize),
+                damage: (0..n).map(relevel).collect(),
+                calls: calls.clone(),
+            };
+            if let Some(failure) = case.run_counted(origin(mutant), counters) {
+                return Some(failure);
+            }
+        }
+    }
+    None
 }
 
 /// Breadth first.

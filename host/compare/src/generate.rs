@@ -96,7 +96,7 @@ impl Style {
         let one = |rng: &mut Rng| 1u64 << rng.below(self.n);
         let mask = match masks {
             Masks::All => full(self.n),
-            Masks::Any | Masks::Mixed => rng.next() & full(self.n),
+            Masks::Any | Masks::Mixed => rng.bits() & full(self.n),
             Masks::One => one(rng),
             Masks::Two => one(rng) | one(rng),
             Masks::Neighbours => (3 << rng.below(self.n)) & full(self.n),
@@ -185,7 +185,7 @@ pub fn machine(rng: &mut Rng, style: &Style) -> (Plan, Vec<u16>) {
         return chain(rng, style, asleep);
     }
     let mut plan = Plan::empty(style.n);
-    let some = rng.next();
+    let some = rng.bits();
     plan.flags = rng.pick(&[0, u64::MAX, some]) & full(style.n);
     plan.tasks = ids[..count].iter().map(|&id| style.task(rng, id)).collect();
     rng.shuffle(&mut plan.tasks);

@@ -15,6 +15,7 @@ pub mod pair;
 pub mod plan;
 pub mod random;
 pub mod rng;
+pub mod sweep;
 pub mod tables;
 pub mod universe;
 pub mod vectors;

@@ -1,80 +1,22 @@
 //! The program: runs the modes, prints what was done, and ends with 0 if everything agreed.
 
+mod options;
+
 use compare::call::Call;
 use compare::case::Failure;
 use compare::counters::Counters;
 use compare::universe::Size;
 use compare::vectors::Side;
-use compare::{damaged, exhaustive, mutants, random, vectors};
-use reference::Mutant;
+use compare::{damaged, exhaustive, mutants, random, sweep, vectors};
+use options::{parse, Options, HELP};
 use std::process::ExitCode;
 use std::time::Instant;
-
-const HELP: &str = "\
-usage: compare [options] [random|damaged|exhaustive|vectors|mutants|all]
-
-Compares the library with an independent second scheduler. Without a mode: all.
-
-  --seed S      the seed of random and damaged (1)
-  --calls N     calls in each of random and damaged (1000000 and 300000; quick 100000 and 60000),
-                and at most in each search of exhaustive (no limit)
-  --quick       the shorter run
-  --case K      this case of random or damaged alone
-  --mutant M    with the error M in the second scheduler: a difference is expected
-  --help        this
-
-Ends with 0 if all agree, 1 if something differs, 2 if these words are not understood.";
-
-struct Options {
-    seed: u64,
-    calls: Option<u64>,
-    quick: bool,
-    case: Option<u64>,
-    mutant: Mutant,
-    mode: String,
-}
 
 /// The least number of times that each refusal and each kind of event must have come up in all modes together.
 const LEAST: u64 = 1000;
 
-fn parse(mut words: impl Iterator<Item = String>) -> Result<Option<Options>, String> {
-    let mut options = Options {
-        seed: 1,
-        calls: None,
-        quick: false,
-        case: None,
-        mutant: Mutant::None,
-        mode: String::from("all"),
-    };
-    while let Some(word) = words.next() {
-        let mut value = || words.next().ok_or(format!("{word} needs a value"));
-        match word.as_str() {
-            "--help" | "-h" => return Ok(None),
-            "--quick" => options.quick = true,
-            "--seed" => options.seed = number(&value()?)?,
-            "--calls" => options.calls = Some(number(&value()?)?),
-            "--case" => options.case = Some(number(&value()?)?),
-            "--mutant" => options.mutant = mutant(&value()?)?,
-            "random" | "damaged" | "exhaustive" | "vectors" | "mutants" | "all" => {
-                options.mode = word
-            }
-            _ => return Err(format!("what is {word}?")),
-        }
-    }
-    match options.case.is_some() && !matches!(options.mode.as_str(), "random" | "damaged") {
-        true => Err(String::from("--case goes with random or damaged")),
-        false => Ok(Some(options)),
-    }
-}
-
-fn number(word: &str) -> Result<u64, String> {
-    word.parse().map_err(|_| format!("{word} is no number"))
-}
-
-fn mutant(name: &str) -> Result<Mutant, String> {
-    let found = Mutant::ALL.iter().find(|m| format!("{m:?}") == name);
-    found.copied().ok_or(format!("no mutant {name}"))
-}
+/// Calls of mode random in a quick run.
+const QUICK: u64 = 100_000;
 
 /// Prints the failure, cut down.
 fn report(failure: Option<Failure>) -> bool {
@@ -105,7 +47,7 @@ fn run_vectors(options: &Options) -> bool {
 fn run_random(options: &Options, counters: &mut Counters) -> bool {
     let calls = options
         .calls
-        .unwrap_or(if options.quick { 100_000 } else { 1_000_000 });
+        .unwrap_or(if options.quick { QUICK } else { 1_000_000 });
     report(match options.case {
         Some(case) => random::run_case(options.seed, case, options.mutant, counters),
         None => random::run(options.seed, calls, options.mutant, counters),
@@ -118,7 +60,7 @@ fn run_damaged(options: &Options, counters: &mut Counters) -> bool {
         .unwrap_or(if options.quick { 60_000 } else { 300_000 });
     report(match options.case {
         Some(case) => damaged::run_case(options.seed, case, options.mutant, counters),
-        None => damaged::every_length(options.mutant, counters)
+        None => sweep::run(options.mutant, counters)
             .or_else(|| damaged::run(options.seed, calls, options.mutant, counters)),
     })
 }
@@ -166,7 +108,7 @@ fn run_exhaustive(options: &Options, counters: &mut Counters) -> bool {
             Ok(reached) => println!("  wake, sleep, tick, yield {reached}: {}", size_words(size)),
         }
     }
-    true
+    report(finder(m, counters))
 }
 
 fn first_call(failure: &Option<Failure>) -> String {
@@ -194,11 +136,15 @@ fn run_mutants(options: &Options) -> bool {
             .filter_map(|s| s.split(' ').next())
             .collect();
         println!(
-            "  {} {:?}: random {}, damaged {}, examples {} | {}",
+            "  {} {:?}: random {}, damaged {}{}, examples {} | {}",
             if hunt.found() { "found" } else { "SURVIVES" },
             hunt.mutant,
             first_call(&hunt.random),
             first_call(&hunt.damaged),
+            match &hunt.sweep {
+                None => String::new(),
+                some => format!(", sweep {}", first_call(some)),
+            },
             if examples.is_empty() {
                 String::from("-")
             } else {
@@ -250,7 +196,8 @@ fn run(options: &Options) -> bool {
     if has("mutants") {
         good &= run_mutants(options);
     }
-    if options.mode == "all" {
+    // A run that is asked to be shorter than the quick one is not asked for this.
+    if options.mode == "all" && options.calls.unwrap_or(QUICK) >= QUICK {
         good &= enough(&total);
     }
     let word = if good { "all agree" } else { "NOT all agree" };

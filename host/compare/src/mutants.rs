@@ -3,7 +3,7 @@
 use crate::case::Failure;
 use crate::counters::Counters;
 use crate::vectors::{wrong, Side};
-use crate::{damaged, random};
+use crate::{damaged, random, sweep};
 use reference::Mutant;
 
 /// How an error was found.
@@ -14,22 +14,36 @@ pub struct Hunt {
     /// The first difference in mode random, and in mode damaged.
     pub random: Option<Failure>,
     pub damaged: Option<Failure>,
+    /// In the sweep, which is asked only if both find nothing.
+    pub sweep: Option<Failure>,
 }
 
 impl Hunt {
     pub fn found(&self) -> bool {
-        self.random.is_some() || self.damaged.is_some()
+        self.random.is_some() || self.damaged.is_some() || self.sweep.is_some()
     }
 }
 
-/// Looks for one error with at most so many calls in each mode.
+/// Looks for one error with at most so many calls in each random mode.
 pub fn hunt(mutant: Mutant, seed: u64, calls: u64) -> Hunt {
-    Hunt {
+    let mut hunt = Hunt {
         mutant,
         examples: wrong(Side::Theirs(mutant)),
         random: random::run(seed, calls, mutant, &mut Counters::default()),
         damaged: damaged::run(seed, calls, mutant, &mut Counters::default()),
+        sweep: None,
+    };
+    if !hunt.found() {
+        hunt.sweep = sweep::run(mutant, &mut Counters::default());
     }
+    hunt
+}
+
+/// Whether no mode finds the error with so many calls.
+pub fn survives(mutant: Mutant, seed: u64, calls: u64) -> bool {
+    damaged::run(seed, calls, mutant, &mut Counters::default()).is_none()
+        && random::run(seed, calls, mutant, &mut Counters::default()).is_none()
+        && sweep::run(mutant, &mut Counters::default()).is_none()
 }
 
 /// All errors.

@@ -1,10 +1,11 @@
 //! Mode random: well-formed machines, and long or short runs of calls on each.
 
 use crate::call::Call;
-use crate::case::{Case, Failure};
+use crate::case::{Case, Failure, Origin};
 use crate::counters::Counters;
 use crate::events;
 use crate::generate::{chain, machine, Style};
+use crate::plan::Plan;
 use crate::rng::Rng;
 use binding::Event;
 use reference::Mutant;
@@ -29,7 +30,19 @@ fn wake(who: u32) -> Event {
     }
 }
 
-/// One case: the failure, if any. Case N-1 begins with the longest chain of moves that N CPUs can have.
+/// A machine, the task numbers in use, and the call to begin with, if it is not any. Case N-1 begins with the
+/// longest chain of moves that N CPUs can have.
+fn opening(rng: &mut Rng, style: &mut Style, number: u64) -> (Plan, Vec<u16>, Option<Call>) {
+    if number < 64 {
+        style.n = number as usize + 1;
+        let (plan, pool) = chain(rng, style, true);
+        return (plan, pool, Some(Call::Event(wake(511))));
+    }
+    let (plan, pool) = machine(rng, style);
+    (plan, pool, None)
+}
+
+/// One case: the failure, if any.
 pub fn run_case(
     seed: u64,
     number: u64,
@@ -38,39 +51,27 @@ pub fn run_case(
 ) -> Option<Failure> {
     let mut rng = Rng::for_case(seed, number);
     let mut style = Style::random(&mut rng);
-    let mut calls = Vec::new();
-    let (plan, pool) = match number {
-        0..=63 => {
-            style.n = number as usize + 1;
-            calls.push(Call::Event(wake(511)));
-            chain(&mut rng, &style, true)
-        }
-        _ => machine(&mut rng, &style),
-    };
+    let (plan, pool, mut first) = opening(&mut rng, &mut style, number);
     let length = length(&mut rng);
     let mut case = Case {
         plan,
         damage: Vec::new(),
         calls: Vec::new(),
     };
+    let origin = Origin {
+        mode: "random",
+        from: Some((seed, number)),
+        mutant,
+    };
     let mut pair = case.start(mutant);
     counters.cases += 1;
-    for i in 0..length {
+    for _ in 0..length {
         let random = || events::call(&mut rng, &pair.ours, &style, &pool);
-        let call = calls.get(i).copied().unwrap_or_else(random);
+        let call = first.take().unwrap_or_else(random);
         case.calls.push(call);
         match pair.call(call) {
             Ok(answer) => counters.count(call, answer),
-            Err(difference) => {
-                return Some(Failure {
-                    mode: "random",
-                    from: Some((seed, number)),
-                    mutant,
-                    case,
-                    calls: counters.calls + 1,
-                    difference,
-                })
-            }
+            Err(difference) => return Some(origin.failure(case, counters, difference)),
         }
     }
     None

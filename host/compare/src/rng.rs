@@ -6,11 +6,11 @@ impl Rng {
     /// The numbers of one case of a run, whatever the cases before it used.
     pub fn for_case(seed: u64, case: u64) -> Rng {
         let mut rng = Rng(seed);
-        let mixed = rng.next().wrapping_add(case);
-        Rng(Rng(mixed).next())
+        let mixed = rng.bits().wrapping_add(case);
+        Rng(Rng(mixed).bits())
     }
 
-    pub fn next(&mut self) -> u64 {
+    pub fn bits(&mut self) -> u64 {
         self.0 = self.0.wrapping_add(0x9e37_79b9_7f4a_7c15);
         let mut z = self.0;
         z = (z ^ (z >> 30)).wrapping_mul(0xbf58_476d_1ce4_e5b9);
@@ -20,7 +20,7 @@ impl Rng {
 
     /// 0 to `limit - 1`; `limit` is not 0.
     pub fn below(&mut self, limit: usize) -> usize {
-        (self.next() % limit as u64) as usize
+        (self.bits() % limit as u64) as usize
     }
 
     pub fn within(&mut self, least: usize, most: usize) -> usize {

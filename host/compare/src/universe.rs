@@ -17,45 +17,59 @@ pub struct Size {
     pub crowded: bool,
 }
 
+fn event(kind: u32, who: usize, a: u8, b: u8, mask: u64) -> Event {
+    Event {
+        kind,
+        who: who as u32,
+        a: u32::from(a),
+        b: u32::from(b),
+        mask,
+    }
+}
+
 impl Size {
-    /// Every event with this size's numbers, and some with a number just past them.
+    /// Every event with this size's numbers.
     pub fn events(&self) -> Vec<Event> {
-        let mut events = Vec::new();
-        let masks = 0..=full(self.n) + 1;
-        let mut push = |kind: u32, who: usize, a: u8, b: u8, mask: u64| {
-            events.push(Event {
-                kind,
-                who: who as u32,
-                a: u32::from(a),
-                b: u32::from(b),
-                mask,
-            })
-        };
+        let mut events = self.refused();
         for who in 0..self.tasks {
-            for mask in masks.clone() {
+            for mask in 1..=full(self.n) {
                 for &policy in self.policies {
                     for &prio in self.prios {
-                        push(1, who, policy, prio, mask);
+                        events.push(event(1, who, policy, prio, mask));
                     }
                 }
-                push(6, who, 0, 0, mask);
+                events.push(event(6, who, 0, 0, mask));
             }
             for kind in 2..=4 {
-                push(kind, who, 0, 0, 0);
+                events.push(event(kind, who, 0, 0, 0));
             }
             for &prio in self.prios {
-                push(5, who, 0, prio, 0);
+                events.push(event(5, who, 0, prio, 0));
             }
-            push(5, who, 0, 100, 0);
         }
-        for cpu in 0..=self.n {
-            push(7, cpu, 0, 0, 0);
-            push(8, cpu, 0, 0, 0);
-            for flag in 0..=2 {
-                push(9, cpu, 0, flag, 0);
-            }
+        for cpu in 0..self.n {
+            events.push(event(7, cpu, 0, 0, 0));
+            events.push(event(8, cpu, 0, 0, 0));
+            events.push(event(9, cpu, 0, 0, 0));
+            events.push(event(9, cpu, 0, 1, 0));
         }
         events
+    }
+
+    /// Some with a number just past this size's.
+    fn refused(&self) -> Vec<Event> {
+        let past = full(self.n) + 1;
+        vec![
+            event(0, 0, 1, 1, 1),
+            event(10, 0, 1, 1, 1),
+            event(1, 0, 3, 1, 1),
+            event(1, 0, 1, 0, 1),
+            event(1, 0, 1, 1, 0),
+            event(6, 0, 0, 0, past),
+            event(5, 0, 0, 100, 0),
+            event(7, self.n, 0, 0, 0),
+            event(9, 0, 0, 2, 0),
+        ]
     }
 
     /// Every way a task place can be: free (none), asleep, or runnable on an allowed CPU.
@@ -185,5 +199,51 @@ fn permute(mut items: Vec<TaskPlan>, from: usize, with: &mut impl FnMut(&[TaskPl
     for i in from..items.len() {
         items.swap(from, i);
         permute(items.clone(), from + 1, with);
+    }
+}
+
+#[cfg(test)]
+mod tests {
+    use super::*;
+    use std::collections::HashSet;
+
+    const SMALL: Size = Size {
+        n: 2,
+        tasks: 2,
+        prios: &[7],
+        policies: &[1],
+        slices: &[100],
+        crowded: false,
+    };
+
+    #[test]
+    fn machines_are_counted_by_hand() {
+        let one = Size {
+            n: 1,
+            tasks: 1,
+            ..SMALL
+        };
+        // Free, asleep or runnable, with and without ordinary work.
+        assert_eq!(one.machines().len(), 6);
+        // A place: free; asleep, 2 CPUs times 3 masks; runnable, 4 ways. Two runnable of the same CPU, which are 2
+        // times 2 times 2 ways, stand in either order.
+        assert_eq!(SMALL.machines().len(), (11 * 11 + 8) * 4);
+    }
+
+    #[test]
+    fn machines_are_different_and_well_formed() {
+        let machines = SMALL.machines();
+        let different: HashSet<Plan> = machines.iter().cloned().collect();
+        assert_eq!(different.len(), machines.len());
+        for plan in machines {
+            assert_eq!(plan.tables().check(), 0);
+            assert_eq!(Plan::read(&plan.tables()), plan);
+        }
+    }
+
+    #[test]
+    fn settings_are_counted_by_hand() {
+        // Two of the masks 1, 2 and 3, in no order.
+        assert_eq!(SMALL.settings().len(), 6);
     }
 }

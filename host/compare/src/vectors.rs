@@ -1,7 +1,7 @@
 //! K1 to K12 of the paper, with the paper's numbers, on our library and on the reference.
 
 use crate::pair::for_reference_event;
-use crate::tables::for_reference;
+use crate::tables::{for_reference, from_reference};
 use binding::{Event, Outcome, Tables};
 use reference::Mutant;
 
@@ -232,7 +232,7 @@ impl Run {
             Side::Theirs(m) => {
                 let mut theirs = for_reference(&self.t);
                 let answer = reference::make_fresh(&mut theirs, m);
-                self.t = back(theirs);
+                self.t = from_reference(&theirs);
                 answer
             }
         }
@@ -244,7 +244,7 @@ impl Run {
             Side::Theirs(m) => {
                 let mut theirs = for_reference(&self.t);
                 let outcome = reference::event(&mut theirs, for_reference_event(e), m);
-                self.t = back(theirs);
+                self.t = from_reference(&theirs);
                 Outcome {
                     answer: outcome.answer,
                     moves: outcome.moves,
@@ -281,26 +281,6 @@ fn same<T: PartialEq + std::fmt::Debug>(what: &str, here: T, paper: T) -> Result
     match here == paper {
         true => Ok(()),
         false => Err(format!("{what}: {here:?}, by the paper {paper:?}")),
-    }
-}
-
-fn back(t: reference::Tables) -> Tables {
-    Tables {
-        n: t.n,
-        state: t.state,
-        policy: t.policy,
-        prio: t.prio,
-        cpu: t.cpu,
-        slice: t.slice,
-        mask: t.mask,
-        rows: t.rows,
-        counts: t.counts,
-        flags: t.flags,
-        log: t.log,
-        level_masks: t.level_masks,
-        level_counts: t.level_counts,
-        level_words: t.level_words,
-        levels: t.levels,
     }
 }
 

@@ -98,6 +98,8 @@ mutants! {
     MaskBeforeValue,
     /// refusal 3 is looked for before 2
     KindBeforeForm,
+    /// refusal 4 is looked for before 3
+    NumberBeforeKind,
     /// numbers that a kind does not use are checked too
     UnusedChecked,
     /// a refused event wipes the log

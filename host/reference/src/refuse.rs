@@ -9,6 +9,7 @@ pub(crate) fn refusal(t: &Tables, e: Event, m: Mutant) -> u8 {
     let mut order = [1, 2, 3, 4, 5, 6, 7, 8, 9];
     match m {
         Mutant::KindBeforeForm => order.swap(1, 2),
+        Mutant::NumberBeforeKind => order.swap(2, 3),
         Mutant::StateBeforeNumber => order.swap(3, 4),
         Mutant::PolicyBeforeState => order.swap(4, 5),
         Mutant::ValueBeforePolicy => order.swap(5, 6),

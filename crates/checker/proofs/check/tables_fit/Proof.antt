@@ -9,7 +9,7 @@ use Rattle.bits.proofs.Tests.{and-both, fails}
 use Rattle.rules.proofs.Bools.{both}
 use Rattle.rules.specs.Tables.{tablesFit}
 use Rattle.checker.specs.Lent.{lent}
-use Rattle.wellformed.proofs.Saying.{yes, no, said}
+use Rattle.rowcheck.proofs.Saying.{yes, no, said}
 use Rattle.wellformed.proofs.Whole.{decides, passes-fit, fit-rows, fit-columns, fit-consistent}
 use Rattle.checker.proofs.check.tables_fit.Statement.{statement}
 use Rattle.checker.proofs.check.tables_fit.Tie as tie

@@ -30,9 +30,6 @@ slice-aggregate-check-3 c =
 check-requires : tie.Need-check-requires
 check-requires c κs = search needs
 
-checked-requires : tie.Need-checked-requires
-checked-requires c κs = search needs
-
 returns-2 : tie.Need-returns-2
 returns-2 c = search needs
 
@@ -46,5 +43,4 @@ test-spec =
     slice-aggregate-check-2
     slice-aggregate-check-3
     check-requires
-    checked-requires
     returns-2)

@@ -18,8 +18,8 @@ use Rattle.runqueue.specs.Table.{rowAt, rowsWith}
 use Rattle.placement.specs.Held.{Held, Entering}
 use Rattle.placement.proofs.Order.{holds, read-row, cpus-counted, fine-delete, held-row}
 use Rattle.migration.specs.Settling.{Stepping}
-use Rattle.migration.proofs.Candidates.{tail-in}
-use Rattle.migration.proofs.Choose.{levels-left}
+use Rattle.mover.proofs.Candidates.{tail-in}
+use Rattle.mover.proofs.Choose.{levels-left}
 use Rattle.migration.proofs.settle.migrate.Statement.{statement}
 use Rattle.migration.proofs.settle.migrate.Tie as tie
 

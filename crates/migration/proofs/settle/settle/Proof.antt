@@ -17,9 +17,9 @@ use Rattle.rules.specs.WellFormed.{WellFormed}
 use Rattle.rules.proofs.Choice.{chosen}
 use Rattle.rules.proofs.Step.{origin-small}
 use Rattle.rules.proofs.Apart.{runnable-place}
-use Rattle.migration.specs.Foremost.{Looking, Foremost, BestOf}
+use Rattle.mover.specs.Foremost.{Looking, Foremost, BestOf}
 use Rattle.migration.specs.Settling.{Settling}
-use Rattle.migration.specs.declared.pick.Mover.{Mover}
+use Rattle.mover.specs.declared.pick.Mover.{Mover}
 use Rattle.migration.proofs.Going.{Going, going-start, here, same-n, few, more-few, looking, going-end, going-found, going-high, going-next, going-on, going-cpus, going-rows, going-counts, going-log}
 use Rattle.migration.proofs.settle.settle.Statement.{statement}
 use Rattle.migration.proofs.settle.settle.Tie as tie

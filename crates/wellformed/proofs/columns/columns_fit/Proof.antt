@@ -6,7 +6,8 @@ use Prim.Native.Nat.{ℕ, _-_, _≤_, _<_}
 use native.Mathlib.Omega.{arith}
 use borrow.Author.Tests.{not-true, not-false}
 use borrow.Author.Count.{below-more}
-use Rattle.wellformed.specs.Placed.{marked, taskAt, soundWhen}
+use Rattle.rowcheck.specs.Placed.{marked}
+use Rattle.wellformed.specs.Passes.{taskAt, soundWhen}
 use Rattle.wellformed.proofs.columns.columns_fit.Statement.{statement}
 use Rattle.wellformed.proofs.columns.columns_fit.Tie as tie
 

@@ -3,7 +3,7 @@ use borrow.Author.Needs.{needs}
 use mathlib.Core.Path.{ap}
 use mathlib.Core.Bool.{Bool, _&&_}
 use lib.Dec.{leb, ltb}
-use Rattle.wellformed.specs.Placed.{rangesFit}
+use Rattle.wellformed.specs.Passes.{rangesFit}
 use Rattle.wellformed.proofs.columns.in_range.Statement.{statement}
 use Rattle.wellformed.proofs.columns.in_range.Tie as tie
 

@@ -5,7 +5,7 @@ use mathlib.Core.Bool.{Bool, _&&_, _||_}
 use native.Mathlib.Omega.{arith}
 use borrow.Author.Tests.{not-true, not-false}
 use lib.Dec.{eqb}
-use Rattle.wellformed.specs.Placed.{task, rangesFit}
+use Rattle.wellformed.specs.Passes.{task, rangesFit}
 use Rattle.wellformed.proofs.Sound.{sound-free, sound-out, sound-in, fits-cpu}
 use Rattle.wellformed.proofs.columns.task_fits.Statement.{statement}
 use Rattle.wellformed.proofs.columns.task_fits.Tie as tie

@@ -10,9 +10,10 @@ use borrow.Author.Tests.{not-true, not-false}
 use lib.ListN.{length-drop}
 use lib.Seq.{length-take-le}
 use borrow.Author.Count.{below-more}
-use Rattle.wellformed.specs.Placed.{marked, mark, Once, Marks, Row, part, standings}
-use Rattle.wellformed.proofs.Saying.{yes, no, never}
-use Rattle.wellformed.proofs.Marking.{digit-le}
+use Rattle.rowcheck.specs.Placed.{marked, mark, Once, Marks, Row}
+use Rattle.wellformed.specs.Passes.{part, standings}
+use Rattle.rowcheck.proofs.Saying.{yes, no, never}
+use Rattle.rowcheck.proofs.Marking.{digit-le}
 use Rattle.wellformed.proofs.Standing.{mark-none, part-is, standings-none, standings-next, standings-grows}
 use Rattle.wellformed.proofs.rows.rows_fit.Statement.{statement}
 use Rattle.wellformed.proofs.rows.rows_fit.Tie as tie

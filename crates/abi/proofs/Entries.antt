@@ -1,0 +1,76 @@
+-- The entries over a record lent as four tables: those of the rules where the four have their lengths, else refused with 1.
+-- Assumes nothing.
+use mathlib.Core.Path.{_≡_, refl, sym, ap, _∙_}
+use mathlib.Core.Bool.{Bool, true, false, cond}
+use Prim.Native.Nat.{ℕ}
+use native.Mathlib.Omega.{arith}
+use Rattle.cpupri.specs.Found as finder
+use Rattle.cpupri.specs.declared.record.Record.{Record}
+use Rattle.rules.specs.Entry as entry
+use Rattle.rules.specs.Events.{Event}
+use Rattle.rules.specs.Refusals.{badSize}
+use Rattle.rules.specs.Tables.{Tables}
+use Rattle.abi.specs.Lent.{fits, result, made, checked, handled, found}
+
+module _ {A : Type 0} {b : Bool} (x y : A) where
+  at-true : b ≡ true → cond b x y ≡ x
+  at-true h = ap (λ (t : Bool). cond t x y) h
+
+  at-false : b ≡ false → cond b x y ≡ y
+  at-false h = ap (λ (t : Bool). cond t x y) h
+
+-- ---- one of the four has another length
+
+pub made-unfit : (n : ℕ) (r : Record) (s : Tables) → fits r ≡ false → result badSize 0 r s ≡ made n r s
+unfolding made
+made-unfit n r s h = sym (at-false (entry.made n r s) (entry.kept badSize r s) h)
+
+pub checked-unfit : (n : ℕ) (r : Record) (s : Tables) → fits r ≡ false → badSize ≡ checked n r s
+unfolding checked
+checked-unfit n r s h = sym (at-false (entry.checked n r s) badSize h)
+
+pub handled-unfit : (n : ℕ) (r : Record) (s : Tables) (e : Event) → fits r ≡ false → result badSize 0 r s ≡ handled n r s e
+unfolding handled
+handled-unfit n r s e h = sym (at-false (entry.handled n r s e) (entry.kept badSize r s) h)
+
+pub found-unfit : (n : ℕ) (r : Record) (level mask : ℕ) → fits r ≡ false → finder.without badSize ≡ found n r level mask
+unfolding found
+found-unfit n r level mask h = sym (at-false (finder.found n r level mask) (finder.without badSize) h)
+
+-- ---- all four fit: r is what was lent, q what was read, t what came back, u what was written
+
+pub made-fit : (n a : ℕ) (r q t u : Record) (s z : Tables) → fits r ≡ true → q ≡ r → result a 0 t z ≡ entry.made n q s → u ≡ t → result a 0 u z ≡ made n r s
+unfolding made
+made-fit n a r q t u s z h read same written =
+    ap (λ (x : Record). result a 0 x z) written ∙ same ∙ ap (λ (x : Record). entry.made n x s) read ∙ sym (at-true (entry.made n r s) (entry.kept badSize r s) h)
+
+pub checked-fit : (n a : ℕ) (r q : Record) (s : Tables) → fits r ≡ true → q ≡ r → a ≡ entry.checked n q s → a ≡ checked n r s
+unfolding checked
+checked-fit n a r q s h read same = same ∙ ap (λ (x : Record). entry.checked n x s) read ∙ sym (at-true (entry.checked n r s) badSize h)
+
+pub handled-fit : (n a k : ℕ) (r q t u : Record) (s z : Tables) (e : Event) → fits r ≡ true → q ≡ r → result a k t z ≡ entry.handled n q s e → u ≡ t
+    → result a k u z ≡ handled n r s e
+unfolding handled
+handled-fit n a k r q t u s z e h read same written =
+    ap (λ (x : Record). result a k x z) written ∙ same ∙ ap (λ (x : Record). entry.handled n x s e) read ∙ sym (at-true (entry.handled n r s e) (entry.kept badSize r s) h)
+
+pub found-fit : (n : ℕ) (r q : Record) (level mask : ℕ) (a : finder.Answer) → fits r ≡ true → q ≡ r → a ≡ finder.found n q level mask → a ≡ found n r level mask
+unfolding found
+found-fit n r q level mask a h read same =
+    same ∙ ap (λ (x : Record). finder.found n x level mask) read ∙ sym (at-true (finder.found n r level mask) (finder.without badSize) h)
+
+-- what comes back accepted passes the check again
+pub checked-again : (n : ℕ) (u t : Record) (z : Tables) → fits u ≡ true → u ≡ t → entry.checked n t z ≡ 0 → checked n u z ≡ 0
+checked-again n u t z h written zero = sym (checked-fit n 0 u t z h (sym written) (sym zero))
+
+pub refused : badSize ≡ 0 → ⊥
+refused h = omega arith
+
+-- tables that pass the check have their lengths, and pass the check of the rules
+pub passed : (n : ℕ) (r : Record) (s : Tables) → checked n r s ≡ 0 → (fits r ≡ true) × (entry.checked n r s ≡ 0)
+unfolding checked
+passed n r s = go (fits r)
+  where
+    go : (b : Bool) → cond b (entry.checked n r s) badSize ≡ 0 → (b ≡ true) × (entry.checked n r s ≡ 0)
+    go true h = (refl, h)
+    go false h = absurd (refused h)

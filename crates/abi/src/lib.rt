@@ -1,0 +1,220 @@
+// The library's entries for C, and for what links like C. A slice is a pointer and a length; the record is
+// lent as its four tables and written back. Each entry checks all that it is lent.
+ghost use mathlib.Core.Path.{_≡_};
+ghost use Rattle.checker.specs.Lent.{lent};
+ghost use Rattle.rules.specs.Events.{effect, event as numbers};
+ghost use Rattle.rules.specs.LentDemand3.{LentDemand3};
+ghost use Rattle.rules.specs.Tables.{machineOf};
+ghost use Rattle.abi.specs.Lent.{lentRecord, result, made, checked, handled, found, answer};
+use cpupri::find::Found;
+use cpupri::level::Level;
+use record::lengths_fit;
+use record::read;
+use record::write;
+use rules::answer::BAD_SIZE;
+
+mod copy;
+pub mod record;
+
+// A fresh machine of n CPUs, whatever the tables held: 0, or 1 if n or a length does not fit.
+#[no_mangle]
+pub extern "C" fn qoriwesh_make_fresh(
+    n: usize,
+    state: &mut [u8],
+    policy: &mut [u8],
+    prio: &mut [u8],
+    cpu: &mut [u8],
+    slice: &mut [u16],
+    mask: &mut [u64],
+    rows: &mut [u16],
+    counts: &mut [u16],
+    flags: &mut [u8],
+    log: &mut [u16],
+    level_masks: &mut [u64],
+    level_counts: &mut [u8],
+    level_words: &mut [u64],
+    levels: &mut [u8],
+) -> u8
+    ensures { λ a. ⌜ result a 0 (lentRecord (now («level_masks» .exit)) (now («level_counts» .exit)) (now («level_words» .exit)) (now (levels .exit))) (lent (now (state .exit)) (now (policy .exit)) (now (prio .exit)) (now (cpu .exit)) (now (slice .exit)) (now (mask .exit)) (now (rows .exit)) (now (counts .exit)) (now (flags .exit)) (now (log .exit))) ≡ made n (lentRecord (now («level_masks» .entry)) (now («level_counts» .entry)) (now («level_words» .entry)) (now (levels .entry))) (lent (now (state .entry)) (now (policy .entry)) (now (prio .entry)) (now (cpu .entry)) (now (slice .entry)) (now (mask .entry)) (now (rows .entry)) (now (counts .entry)) (now (flags .entry)) (now (log .entry))) ⌝ }
+{
+    if !lengths_fit(
+        level_masks.len(),
+        level_counts.len(),
+        level_words.len(),
+        levels.len(),
+    ) {
+        return BAD_SIZE;
+    }
+    let given = read(level_masks, level_counts, level_words, levels);
+    let made = checker::fresh::make_fresh(
+        n,
+        state,
+        policy,
+        prio,
+        cpu,
+        slice,
+        mask,
+        rows,
+        counts,
+        flags,
+        log,
+        given,
+    );
+    let record = made.record;
+    write(record, level_masks, level_counts, level_words, levels);
+    made.answer
+}
+
+// 0 for a well-formed machine, 1 if n or a length does not fit, 2 if it is not well-formed. Nothing is
+// written.
+#[no_mangle]
+pub extern "C" fn qoriwesh_check(
+    n: usize,
+    state: &[u8],
+    policy: &[u8],
+    prio: &[u8],
+    cpu: &[u8],
+    slice: &[u16],
+    mask: &[u64],
+    rows: &[u16],
+    counts: &[u16],
+    flags: &[u8],
+    log: &[u16],
+    level_masks: &[u64],
+    level_counts: &[u8],
+    level_words: &[u64],
+    levels: &[u8],
+) -> u8
+    ensures { λ a. ⌜ a ≡ checked n (lentRecord (now («level_masks» .entry)) (now («level_counts» .entry)) (now («level_words» .entry)) (now (levels .entry))) (lent (now (state .entry)) (now (policy .entry)) (now (prio .entry)) (now (cpu .entry)) (now (slice .entry)) (now (mask .entry)) (now (rows .entry)) (now (counts .entry)) (now (flags .entry)) (now (log .entry))) ⌝ }
+{
+    if !lengths_fit(
+        level_masks.len(),
+        level_counts.len(),
+        level_words.len(),
+        levels.len(),
+    ) {
+        return BAD_SIZE;
+    }
+    let record = read(level_masks, level_counts, level_words, levels);
+    checker::check::check(
+        n,
+        state,
+        policy,
+        prio,
+        cpu,
+        slice,
+        mask,
+        rows,
+        counts,
+        flags,
+        log,
+        record,
+    )
+}
+
+// One event on any tables: 0 with the number of moves, or a refusal, 1 to 9, with 0 moves, which changes
+// nothing.
+#[no_mangle]
+pub extern "C" fn qoriwesh_event(
+    n: usize,
+    state: &mut [u8],
+    policy: &mut [u8],
+    prio: &mut [u8],
+    cpu: &mut [u8],
+    slice: &mut [u16],
+    mask: &mut [u64],
+    rows: &mut [u16],
+    counts: &mut [u16],
+    flags: &mut [u8],
+    log: &mut [u16],
+    level_masks: &mut [u64],
+    level_counts: &mut [u8],
+    level_words: &mut [u64],
+    levels: &mut [u8],
+    kind: u32,
+    who: u32,
+    a: u32,
+    b: u32,
+    k: u64,
+    moves: &mut u32,
+) -> u8
+    ensures { λ o. ⌜ result o (now (moves .exit)) (lentRecord (now («level_masks» .exit)) (now («level_counts» .exit)) (now («level_words» .exit)) (now (levels .exit))) (lent (now (state .exit)) (now (policy .exit)) (now (prio .exit)) (now (cpu .exit)) (now (slice .exit)) (now (mask .exit)) (now (rows .exit)) (now (counts .exit)) (now (flags .exit)) (now (log .exit))) ≡ handled n (lentRecord (now («level_masks» .entry)) (now («level_counts» .entry)) (now («level_words» .entry)) (now (levels .entry))) (lent (now (state .entry)) (now (policy .entry)) (now (prio .entry)) (now (cpu .entry)) (now (slice .entry)) (now (mask .entry)) (now (rows .entry)) (now (counts .entry)) (now (flags .entry)) (now (log .entry))) (numbers kind who a b k) ⌝ }
+    ensures { λ o. ⌜ (o ≡ 0 → LentDemand3 n (now (moves .exit)) (effect (numbers kind who a b k) (machineOf n (lent (now (state .entry)) (now (policy .entry)) (now (prio .entry)) (now (cpu .entry)) (now (slice .entry)) (now (mask .entry)) (now (rows .entry)) (now (counts .entry)) (now (flags .entry)) (now (log .entry))))) (lent (now (state .exit)) (now (policy .exit)) (now (prio .exit)) (now (cpu .exit)) (now (slice .exit)) (now (mask .exit)) (now (rows .exit)) (now (counts .exit)) (now (flags .exit)) (now (log .exit)))) ⌝ }
+    ensures { λ o. ⌜ (o ≡ 0 → checked n (lentRecord (now («level_masks» .exit)) (now («level_counts» .exit)) (now («level_words» .exit)) (now (levels .exit))) (lent (now (state .exit)) (now (policy .exit)) (now (prio .exit)) (now (cpu .exit)) (now (slice .exit)) (now (mask .exit)) (now (rows .exit)) (now (counts .exit)) (now (flags .exit)) (now (log .exit))) ≡ 0) ⌝ }
+{
+    *moves = 0;
+    if !lengths_fit(
+        level_masks.len(),
+        level_counts.len(),
+        level_words.len(),
+        levels.len(),
+    ) {
+        return BAD_SIZE;
+    }
+    let given = read(level_masks, level_counts, level_words, levels);
+    let o = machine::event(
+        n,
+        state,
+        policy,
+        prio,
+        cpu,
+        slice,
+        mask,
+        rows,
+        counts,
+        flags,
+        log,
+        kind,
+        who,
+        a,
+        b,
+        k,
+        given,
+    );
+    *moves = o.moves;
+    let record = o.record;
+    write(record, level_masks, level_counts, level_words, levels);
+    o.answer
+}
+
+// The lowest level below `level` that has a CPU of `mask`, and those CPUs: 0 with that level and mask, or with
+// 255 and 0 if there is none; a refusal, 1, 2, 7 or 8, has 255 and 0 too.
+#[no_mangle]
+pub extern "C" fn qoriwesh_find(
+    n: usize,
+    level_masks: &[u64],
+    level_counts: &[u8],
+    level_words: &[u64],
+    levels: &[u8],
+    level: u32,
+    mask: u64,
+    found_level: &mut u8,
+    found_mask: &mut u64,
+) -> u8
+    ensures { λ o. ⌜ answer o (now («found_level» .exit)) (now («found_mask» .exit)) ≡ found n (lentRecord (now («level_masks» .entry)) (now («level_counts» .entry)) (now («level_words» .entry)) (now (levels .entry))) level mask ⌝ }
+{
+    let invalid = Level::INVALID;
+    *found_level = invalid.number;
+    *found_mask = 0;
+    if !lengths_fit(
+        level_masks.len(),
+        level_counts.len(),
+        level_words.len(),
+        levels.len(),
+    ) {
+        return BAD_SIZE;
+    }
+    let record = read(level_masks, level_counts, level_words, levels);
+    match cpupri::find::find(n, record, level, mask) {
+        Found::Cpus {
+            level: l,
+            mask: cpus,
+        } => {
+            *found_level = l;
+            *found_mask = cpus;
+            0
+        }
+        Found::Nothing => 0,
+        Found::Refused(number) => number,
+    }
+}

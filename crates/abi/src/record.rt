@@ -1,0 +1,62 @@
+// The CPU-priority record as a C caller lends it: four tables.
+ghost use mathlib.Core.Path.{_≡_};
+ghost use mathlib.Core.Bool.{true};
+ghost use lib.ListN.{length};
+ghost use Rattle.abi.specs.Lent.{recordFits, lentRecord};
+use super::copy::copy_u8;
+use super::copy::copy_u64;
+use cpupri::record::CPUS;
+use cpupri::record::LEVELS;
+use cpupri::record::Record;
+
+// The two words of level bits.
+pub const WORDS: usize = 2;
+
+// Whether the four tables have the record's lengths.
+pub fn lengths_fit(masks: usize, counts: usize, words: usize, levels: usize) -> bool
+    ensures { λ b. ⌜ b ≡ recordFits masks counts words levels ⌝ }
+{
+    (masks == LEVELS) & (counts == LEVELS) & (words == WORDS) & (levels == CPUS)
+}
+
+// The record that the four tables hold.
+pub fn read(masks: &[u64], counts: &[u8], words: &[u64], levels: &[u8]) -> Record
+    requires { ⌜ recordFits (length (now masks)) (length (now counts)) (length (now words)) (length (now levels)) ≡ true ⌝ }
+    ensures { λ r. ⌜ r ≡ lentRecord (now (masks .entry)) (now (counts .entry)) (now (words .entry)) (now (levels .entry)) ⌝ }
+{
+    let mut m = [0u64; LEVELS];
+    copy_u64(masks, &mut m);
+    let mut c = [0u8; LEVELS];
+    copy_u8(counts, &mut c);
+    let mut w = [0u64; WORDS];
+    copy_u64(words, &mut w);
+    let mut l = [0u8; CPUS];
+    copy_u8(levels, &mut l);
+    Record {
+        masks: m,
+        counts: c,
+        words: w,
+        levels: l,
+    }
+}
+
+// The four tables hold the record.
+pub fn write(
+    record: Record,
+    masks: &mut [u64],
+    counts: &mut [u8],
+    words: &mut [u64],
+    levels: &mut [u8],
+)
+    requires { ⌜ recordFits (length (now masks)) (length (now counts)) (length (now words)) (length (now levels)) ≡ true ⌝ }
+    ensures { λ u. ⌜ lentRecord (now (masks .exit)) (now (counts .exit)) (now (words .exit)) (now (levels .exit)) ≡ «record» ⌝ }
+{
+    let m = record.masks;
+    copy_u64(&m, masks);
+    let c = record.counts;
+    copy_u8(&c, counts);
+    let w = record.words;
+    copy_u64(&w, words);
+    let l = record.levels;
+    copy_u8(&l, levels);
+}

@@ -1,0 +1,2 @@
+-- The law behind filling a table.
+pub mod Filling

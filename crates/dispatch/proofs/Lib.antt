@@ -1,0 +1,2 @@
+-- From a kind to the event.
+pub mod Dispatching

@@ -1,0 +1,261 @@
+-- An event on tables that pass the check: what it is lent for its own effect, and what it hands back, refused or taken.
+-- Assumes nothing.
+use mathlib.Core.Path.{_≡_, refl, sym, ap, _∙_, subst}
+use mathlib.Core.List.{List}
+use Prim.Native.Nat.{ℕ, zero, suc, _*_, _≤_, _<_}
+use native.Mathlib.Omega.{arith}
+use lib.ListN.{length}
+use Rattle.cpupri.specs.Record.{recordOf}
+use Rattle.cpupri.specs.declared.record.Record.{Record}
+use Rattle.rules.specs.Machine.{Machine, levels, taskPlaces, cpuPlaces}
+use Rattle.rules.specs.WellFormed.{WellFormed}
+use Rattle.rules.specs.Events.{Event, effect}
+use Rattle.rules.specs.Refusals.{refusal}
+use Rattle.rules.specs.Migration.{Move, Settled, settled, migrate}
+use Rattle.rules.specs.Outcome.{Outcome, outcome, logged}
+use Rattle.rules.specs.Tables.{Tables, machineOf, tablesOf, flatOf, rowsOf, rowCounts, logPlaces}
+use Rattle.rules.specs.Entry.{Good, Result, kept, written, checked, eventAnswer, orElse, handled}
+use Rattle.rules.specs.LentDemand3.{LentDemand3}
+use Rattle.rules.proofs.Checks.{outcome-accepted}
+use Rattle.rules.proofs.Effects.{keep-effect}
+use Rattle.rules.proofs.Runs.{settle-run, run-keeps, run-few}
+use Rattle.rules.proofs.Tables.{write-read, stored-test}
+use Rattle.rules.proofs.Entry.{checked-good, good-checked, answer-zero, handled-answer, handled-refused, handled-accepted, handled-good, start-n}
+use Rattle.rules.proofs.LentDemand3.{handled-lent}
+use Rattle.checker.specs.Lent.{lent}
+use Rattle.dispatch.specs.Lent.{LentAll, Answered}
+use Rattle.effects.specs.After.{applied, ifAccepted}
+use Rattle.placement.proofs.Order.{well-formed-order}
+use Rattle.migration.specs.Settling.{Settling, Ended}
+use Rattle.handling.specs.Result.{result}
+
+-- tables that agree in every part
+record Same (s t : Tables) : Type 0 where
+  state : s .state ≡ t .state
+  policy : s .policy ≡ t .policy
+  prio : s .prio ≡ t .prio
+  cpu : s .cpu ≡ t .cpu
+  slice : s .slice ≡ t .slice
+  mask : s .mask ≡ t .mask
+  rows : s .rows ≡ t .rows
+  counts : s .counts ≡ t .counts
+  flags : s .flags ≡ t .flags
+  log : s .log ≡ t .log
+
+same-tables : (s t : Tables) → Same s t → s ≡ t
+same-tables s t h = whole
+  where
+    whole : lent (s .state) (s .policy) (s .prio) (s .cpu) (s .slice) (s .mask) (s .rows) (s .counts) (s .flags) (s .log)
+        ≡ lent (t .state) (t .policy) (t .prio) (t .cpu) (t .slice) (t .mask) (t .rows) (t .counts) (t .flags) (t .log)
+    whole =
+        let a = h .state in
+        let b = h .policy in
+        let c = h .prio in
+        let d = h .cpu in
+        let e = h .slice in
+        let f = h .mask in
+        let g = h .rows in
+        let i = h .counts in
+        let j = h .flags in
+        let k = h .log in
+        cc
+
+module _ (n : ℕ) (r : Record) (s : Tables) (h : checked n r s ≡ 0) where
+  abbrev before : Machine
+  before = machineOf n s
+
+  good : Good n r s
+  good = checked-good n r s h
+
+  -- rows that are read are written back as they were
+  back : (flatOf (rowsOf (s .counts) (s .rows)) ≡ s .rows) × (rowCounts (rowsOf (s .counts) (s .rows)) ≡ s .counts)
+  back = write-read (s .counts) (s .rows) long (stored-test (s .counts) (s .rows) long (good .stored))
+    where
+      long : length (s .rows) ≡ taskPlaces * length (s .counts)
+      long = good .rows ∙ ap (λ (k : ℕ). taskPlaces * k) (sym (good .counts))
+
+  pub lent-all : LentAll (machineOf n s) n (s .state) (s .policy) (s .prio) (s .cpu) (s .slice) (s .mask) (s .rows) (s .counts) (s .flags) r
+  lent-all =
+      record {
+        formed = good .machine;
+        cpus = refl;
+        columns = record { state = refl; policy = refl; prio = refl; cpu = refl; slice = refl; mask = refl };
+        placed = record { rows = sym (back .0); counts = sym (back .1); levels = good .levels };
+        flags = refl;
+      }
+
+  written-same : tablesOf before (s .log) ≡ s
+  written-same =
+      same-tables _ s
+      (record {
+        state = refl;
+        policy = refl;
+        prio = refl;
+        cpu = refl;
+        slice = refl;
+        mask = refl;
+        rows = back .0;
+        counts = back .1;
+        flags = refl;
+        log = refl;
+      })
+
+  -- ---- after the event's own effect
+
+  module _ (e : Event) (a : ℕ) (t : Tables) (q : Record) (log : t .log ≡ s .log)
+      (done : Answered (machineOf n s) e a (t .state) (t .policy) (t .prio) (t .cpu) (t .slice) (t .mask) (t .rows) (t .counts) (t .flags) q) where
+    answer-is : eventAnswer n r s e ≡ a
+    unfolding eventAnswer
+    answer-is = ap (λ (x : ℕ). orElse x (refusal before e)) h ∙ sym (done .answer)
+
+    applied-is : (b : ℕ) → a ≡ b → applied e before ≡ ifAccepted b (effect e before) before
+    unfolding applied
+    applied-is b z = ap (λ (x : ℕ). ifAccepted x (effect e before) before) (sym (done .answer) ∙ z)
+
+    effect-written : t ≡ tablesOf (applied e before) (s .log)
+    effect-written =
+        same-tables t _
+        (record {
+          state = done .columns .state;
+          policy = done .columns .policy;
+          prio = done .columns .prio;
+          cpu = done .columns .cpu;
+          slice = done .columns .slice;
+          mask = done .columns .mask;
+          rows = done .placed .rows;
+          counts = done .placed .counts;
+          flags = done .flags;
+          log = log;
+        })
+
+    -- ---- refused
+
+    refused-same : (b : ℕ) → a ≡ suc b → (q ≡ r) × (t ≡ s)
+    refused-same b z = (
+      done .placed .levels ∙ ap (λ (m : Machine). recordOf (levels m)) (applied-is (suc b) z) ∙ sym (good .levels),
+      effect-written ∙ ap (λ (m : Machine). tablesOf m (s .log)) (applied-is (suc b) z) ∙ written-same,
+    )
+
+    pub refused-result : (a ≡ 0 → ⊥) → (result a 0 q t ≡ handled n r s e) × (checked n q t ≡ 0)
+    refused-result z = go a refl
+      where
+        go : (b : ℕ) → a ≡ b → (result a 0 q t ≡ handled n r s e) × (checked n q t ≡ 0)
+        go zero x = absurd (z x)
+        go (suc b) x =
+            let same = refused-same b x in
+            let q-same : q ≡ r = same .0 in
+            let t-same : t ≡ s = same .1 in
+            let all : result a 0 q t ≡ kept (suc b) r s = cc in
+            let chk : checked n q t ≡ checked n r s = cc in
+            (all ∙ sym (handled-refused n r s e b (answer-is ∙ x)), chk ∙ h)
+
+    -- ---- taken
+
+    module _ (z : a ≡ 0) where
+      abbrev start : Machine
+      start = effect e before
+
+      takes : refusal before e ≡ 0
+      takes = sym (done .answer) ∙ z
+
+      answer-zero-is : eventAnswer n r s e ≡ 0
+      answer-zero-is = answer-is ∙ z
+
+      well : WellFormed start
+      well = keep-effect before e (good .machine) takes
+
+      start-tables : t ≡ tablesOf start (s .log)
+      start-tables = effect-written ∙ ap (λ (m : Machine). tablesOf m (s .log)) (applied-is 0 z)
+
+      pub start-settling : Settling (effect e (machineOf n s)) (t .prio) (t .cpu) (t .mask) (t .counts) (t .rows) q
+      start-settling =
+          record {
+            well = well;
+            held = record {
+              order = well-formed-order start well;
+              prio = ap (λ (x : Tables). x .prio) start-tables;
+              counts = ap (λ (x : Tables). x .counts) start-tables;
+              rows = ap (λ (x : Tables). x .rows) start-tables;
+              levels = done .placed .levels ∙ ap (λ (m : Machine). recordOf (levels m)) (applied-is 0 z);
+            };
+            cpus = ap (λ (x : Tables). x .cpu) start-tables;
+            masks = ap (λ (x : Tables). x .mask) start-tables;
+          }
+
+      pub start-cpus : n ≡ effect e (machineOf n s) .n
+      start-cpus = sym (start-n n r s e answer-zero-is)
+
+      pub log-long : length (t .log) ≡ logPlaces
+      log-long = ap length log ∙ good .log
+
+      -- ---- after the steps
+
+      module _ (cs ks flat lg : List ℕ) (k : ℕ) (p : Record)
+          (ended : Ended (settled (effect e (machineOf n s))) (t .prio) cs ks flat (t .log) lg k p) where
+        abbrev steps : Settled
+        steps = settled start
+
+        abbrev after : Tables
+        after = lent (t .state) (t .policy) (t .prio) cs (t .slice) (t .mask) flat ks (t .flags) lg
+
+        -- steps leave the other columns alone
+        stays : (f : Machine → List ℕ) → ((v : Move) (m : Machine) → f (migrate v m) ≡ f m) → f start ≡ f (steps .machine)
+        stays f c = sym (run-keeps f c (settle-run (start .n) start))
+
+        after-is : after ≡ tablesOf (steps .machine) (logged (steps .log) (s .log))
+        after-is =
+            same-tables after _
+            (record {
+              state = ap (λ (x : Tables). x .state) start-tables ∙ stays (λ m. m .state) (λ v m. refl);
+              policy = ap (λ (x : Tables). x .policy) start-tables ∙ stays (λ m. m .policy) (λ v m. refl);
+              prio = ended .held .prio;
+              cpu = ended .cpus;
+              slice = ap (λ (x : Tables). x .slice) start-tables ∙ stays (λ m. m .slice) (λ v m. refl);
+              mask = ap (λ (x : Tables). x .mask) start-tables ∙ stays (λ m. m .mask) (λ v m. refl);
+              rows = ended .held .rows;
+              counts = ended .held .counts;
+              flags = ap (λ (x : Tables). x .flags) start-tables ∙ stays (λ m. m .flags) (λ v m. refl);
+              log = ended .logs ∙ ap (logged (steps .log)) log;
+            })
+
+        taken-is : result 0 k p after ≡ handled n r s e
+        taken-is =
+            let few = ended .moves in
+            let levels = ended .held .levels in
+            let tables = after-is in
+            let all : result 0 k p after ≡ written (length (steps .log)) (steps .machine) (logged (steps .log) (s .log)) = cc in
+            all ∙ sym (ap (λ (o : Outcome). written (o .moves) (o .machine) (logged (o .log) (s .log))) (outcome-accepted before e takes))
+            ∙ sym (handled-accepted n r s e answer-zero-is)
+
+        pub taken-result : (result 0 k p (lent (t .state) (t .policy) (t .prio) cs (t .slice) (t .mask) flat ks (t .flags) lg) ≡ handled n r s e)
+            × (checked n p (lent (t .state) (t .policy) (t .prio) cs (t .slice) (t .mask) flat ks (t .flags) lg) ≡ 0)
+        taken-result = (
+          taken-is,
+          good-checked n p after (subst (λ (x : Result). Good n (x .cpupri) (x .tables)) (sym taken-is) (handled-good n r s e answer-zero-is)),
+        )
+
+        -- there are fewer moves than CPUs
+        pub taken-few : k < cpuPlaces
+        taken-few =
+            let few : suc (length (steps .log)) ≤ start .n = run-few well (settle-run (start .n) start) in
+            let count : k ≡ length (steps .log) = ended .moves in
+            omega (arith, well .shape .cpus)
+
+-- ---- refused by the check
+
+pub unchecked-result : (n : ℕ) (r : Record) (s : Tables) (e : Event) (a : ℕ) → a ≡ checked n r s → (a ≡ 0 → ⊥) → result a 0 r s ≡ handled n r s e
+unfolding eventAnswer
+unchecked-result n r s e a h z = go a refl
+  where
+    go : (b : ℕ) → a ≡ b → result a 0 r s ≡ handled n r s e
+    go zero x = absurd (z x)
+    go (suc b) x =
+        ap (λ (k : ℕ). kept k r s) x ∙ sym (handled-refused n r s e b (ap (λ (k : ℕ). orElse k (refusal (machineOf n s) e)) (sym h ∙ x)))
+
+-- ---- demand 3 of what is handed back
+
+pub result-demand : (n : ℕ) (r : Record) (s : Tables) (e : Event) (a k : ℕ) (q : Record) (t : Tables)
+    → result a k q t ≡ handled n r s e → a ≡ 0 → LentDemand3 n k (effect e (machineOf n s)) t
+result-demand n r s e a k q t same z =
+    let zero-is : eventAnswer n r s e ≡ 0 = sym (handled-answer n r s e) ∙ sym (ap (λ (x : Result). x .answer) same) ∙ z in
+    subst (λ (x : Result). LentDemand3 n (x .moves) (effect e (machineOf n s)) (x .tables)) (sym same) (handled-lent n r s e zero-is)

@@ -1,0 +1,74 @@
+// An event on tables that pass the check: the event's own effect, then migration steps until none applies.
+ghost use mathlib.Core.Path.{_≡_};
+ghost use Rattle.rules.specs.Entry.{checked, handled};
+ghost use Rattle.rules.specs.Events.{event as numbers};
+ghost use Rattle.checker.specs.Lent.{lent};
+ghost use Rattle.handling.specs.Result.{result};
+use cpupri::record::Record;
+
+// The answer to an event: 0 and the number of moves, or a refusal, which changes nothing.
+pub struct Outcome {
+    pub answer: u8,
+    pub moves: u32,
+    pub record: Record,
+}
+
+// One event on well-formed tables, which stay well-formed. Nothing is checked again but the event.
+pub fn handle(
+    n: usize,
+    state: &mut [u8],
+    policy: &mut [u8],
+    prio: &mut [u8],
+    cpu: &mut [u8],
+    slice: &mut [u16],
+    mask: &mut [u64],
+    rows: &mut [u16],
+    counts: &mut [u16],
+    flags: &mut [u8],
+    log: &mut [u16],
+    kind: u32,
+    who: u32,
+    a: u32,
+    b: u32,
+    k: u64,
+    record: Record,
+) -> Outcome
+    requires { ⌜ checked n «record» (lent (now state) (now policy) (now prio) (now cpu) (now slice) (now mask) (now rows) (now counts) (now flags) (now log)) ≡ 0 ⌝ }
+    ensures { λ o. ⌜ result (o .answer) (o .moves) (o .«record») (lent (now (state .exit)) (now (policy .exit)) (now (prio .exit)) (now (cpu .exit)) (now (slice .exit)) (now (mask .exit)) (now (rows .exit)) (now (counts .exit)) (now (flags .exit)) (now (log .exit))) ≡ handled n «record» (lent (now (state .entry)) (now (policy .entry)) (now (prio .entry)) (now (cpu .entry)) (now (slice .entry)) (now (mask .entry)) (now (rows .entry)) (now (counts .entry)) (now (flags .entry)) (now (log .entry))) (numbers kind who a b k) ⌝ }
+    ensures { λ o. ⌜ checked n (o .«record») (lent (now (state .exit)) (now (policy .exit)) (now (prio .exit)) (now (cpu .exit)) (now (slice .exit)) (now (mask .exit)) (now (rows .exit)) (now (counts .exit)) (now (flags .exit)) (now (log .exit))) ≡ 0 ⌝ }
+{
+    let applied = dispatch::apply(
+        n,
+        state,
+        policy,
+        prio,
+        cpu,
+        slice,
+        mask,
+        rows,
+        counts,
+        flags,
+        kind,
+        who,
+        a,
+        b,
+        k,
+        record,
+    );
+    let refusal = applied.answer;
+    let changed = applied.record;
+    if refusal != 0 {
+        return Outcome {
+            answer: refusal,
+            moves: 0,
+            record: changed,
+        };
+    }
+    let steps = migration::settle::settle(n, prio, cpu, mask, rows, counts, log, changed);
+    let settled = steps.record;
+    Outcome {
+        answer: 0,
+        moves: steps.moves as u32,
+        record: settled,
+    }
+}

@@ -1,0 +1,265 @@
+-- The search for the mover: what the lent tables say of a row, and how one more row changes the best candidate.
+-- Assumes nothing.
+use mathlib.Core.Path.{_≡_, refl, sym, ap, ap₂, _∙_, subst}
+use mathlib.Core.Bool.{Bool, true, false, _&&_, false≢true}
+use mathlib.Core.Logic.{_⊎_, inl, inr}
+use mathlib.Core.List.{List, [], _∷_, tail}
+use Prim.Native.Nat.{ℕ, suc, _*_, _≤_, _<_}
+use native.Mathlib.Nat.{not-suc-le-zero, le-of-suc-le-suc}
+use native.Mathlib.Omega.{arith}
+use lib.Arith.{lt-of-le-ne, le-zero}
+use lib.Dec.{eqb, ltb, leb}
+use lib.ListN.{length, getD, take, drop}
+use lib.Seq.{getD-take}
+use borrow.Author.Tests.{ltb-true, ltb-false, eqb-true, eqb-false, leb-true, leb-false}
+use Rattle.bits.proofs.Tests.{and-left, and-right, and-both, fails}
+use Rattle.cpupri.specs.Level.{levelOf}
+use Rattle.cpupri.specs.Found.{lowestLevel}
+use Rattle.cpupri.specs.Record.{recordOf, masksOf}
+use Rattle.rules.specs.Lists.{In, Falling, place, occ}
+use Rattle.rules.specs.Machine.{Machine, taskOf, prioOf, row, levels, taskPlaces}
+use Rattle.rules.specs.Migration.{movable}
+use Rattle.rules.specs.WellFormed.{Fit}
+use Rattle.rules.proofs.Apart.{in-row, once, runnable-fit}
+use Rattle.rules.proofs.Finder.{movable-found, found-movable}
+use Rattle.rules.proofs.Lists.{in-there, in-getD, occ-cons, digit-same, not-in-nil, falling-at}
+use Rattle.rules.proofs.Order.{place-lt, place-there, place-is}
+use Rattle.runqueue.specs.Row.{ahead}
+use Rattle.runqueue.specs.Table.{HoldsRows, rowAt}
+use Rattle.runqueue.proofs.Places.{place-le, ahead-before, ahead-here}
+use Rattle.runqueue.proofs.Queued.{row-size}
+use Rattle.runqueue.proofs.Flat.{count-is, part-held, part-taken}
+use Rattle.placement.specs.Held.{Held}
+use Rattle.placement.proofs.Order.{well-formed-order, holds, read-row, cpus-counted, above}
+use Rattle.mover.specs.Wanted.{findable, wanted, Searchable}
+use Rattle.mover.specs.Foremost.{Looking, BestOf}
+use Rattle.mover.specs.declared.pick.Mover.{Mover}
+
+-- ---- tails
+
+pub tail-in : (u : ℕ) (r : List ℕ) → In u (tail r) → In u r
+tail-in u [] i = i
+tail-in u (x ∷ xs) i = in-there u x xs i
+
+pub length-tail : (r : List ℕ) → length r ≡ suc (length (tail r)) ⊎ (r ≡ [])
+length-tail [] = inr refl
+length-tail (x ∷ xs) = inl refl
+
+pub getD-tail : (r : List ℕ) (k : ℕ) → getD (tail r) k 0 ≡ getD r (suc k) 0
+getD-tail [] k = refl
+getD-tail (x ∷ xs) k = refl
+
+-- a task that waits stands one place further in the row than in its tail
+place-tail : (u : ℕ) (r : List ℕ) → occ u r ≤ 1 → In u (tail r) → place u r ≡ suc (place u (tail r))
+place-tail u [] h i = absurd (not-in-nil u i)
+place-tail u (x ∷ xs) h i = place-there u x xs (λ e. twice e)
+  where
+    twice : u ≡ x → ⊥
+    twice e = omega (arith, occ-cons u x xs, digit-same u x e)
+
+module _ (m : Machine) (ps ms ks flat masks : List ℕ) (k : Looking m ps ms ks flat masks) where
+  pub looking-held : Held m ps ks flat (recordOf (levels m))
+  looking-held = record { order = well-formed-order m (k .well); prio = k .prio; counts = k .counts; rows = k .rows; levels = refl }
+
+  pub looking-rows : HoldsRows ks flat
+  looking-rows = holds m ps ks flat (recordOf (levels m)) looking-held
+
+  pub looking-cpus : length ks ≡ m .n
+  looking-cpus = cpus-counted m ps ks flat (recordOf (levels m)) looking-held
+
+  module _ (c : ℕ) (hc : c < m .n) where
+    here : c < length ks
+    here = omega (arith, looking-cpus)
+
+    pub row-is : rowAt ks flat c ≡ row m c
+    row-is = read-row m ps ks flat (recordOf (levels m)) looking-held c
+
+    pub row-count : getD ks c 0 ≡ length (row m c)
+    row-count = count-is ks flat looking-rows c here ∙ ap length row-is
+
+    pub part-is-row : take (getD ks c 0) (take taskPlaces (drop (taskPlaces * c) flat)) ≡ row m c
+    part-is-row = part-taken ks flat looking-rows c here ∙ row-is
+
+    part-at : (i : ℕ) → i < getD ks c 0 → getD (take taskPlaces (drop (taskPlaces * c) flat)) i 0 ≡ getD (row m c) i 0
+    part-at i h = sym (getD-take (getD ks c 0) (take taskPlaces (drop (taskPlaces * c) flat)) i 0 h) ∙ ap (λ (l : List ℕ). getD l i 0) part-is-row
+
+    task-in : (i : ℕ) → i < getD ks c 0 → In (getD (row m c) i 0) (rowAt ks flat c)
+    task-in i h = subst (In (getD (row m c) i 0)) (sym row-is) (in-getD (row m c) i (omega (arith, row-count)))
+
+    -- the row's part of the table can be searched
+    pub searchable : 1 ≤ getD ks c 0 → Searchable ps ms (take taskPlaces (drop (taskPlaces * c) flat)) (getD ks c 0)
+    searchable some =
+        record {
+          some = some;
+          most = let size = row-size (getD ks c 0) (take taskPlaces (drop (taskPlaces * c) flat)) (part-held ks flat looking-rows c here) in
+              omega (arith, part-held ks flat looking-rows c here .most);
+          prios = ap length (k .prio) ∙ k .well .shape .prio;
+          masks = ap length (k .mask) ∙ k .well .shape .mask;
+          tasks = λ i h. subst (λ (u : ℕ). u < taskPlaces) (sym (part-at i h)) (above m ps ks flat (recordOf (levels m)) looking-held c _ (task-in i h) .0);
+          high = λ i h. subst (λ (u : ℕ). getD ps u 0 ≤ 99) (sym (part-at i h)) (above m ps ks flat (recordOf (levels m)) looking-held c _ (task-in i h) .1);
+          falling = subst (λ (l : List ℕ). Falling (λ (u : ℕ). getD ps u 0) l) (sym part-is-row) (subst (λ (qs : List ℕ). Falling (λ (u : ℕ). getD qs u 0) (row m c)) (sym (k .prio)) (k .well .falling c));
+        }
+
+    module _ (u : ℕ) (i : In u (row m c)) where
+      fit : Fit (m .n) (taskOf m u)
+      fit = runnable-fit m u (k .well) (in-row m u c (k .well) i .0)
+
+      -- the finder's answer is the rules'
+      found-is : findable masks ps ms u ≡ movable m u
+      unfolding findable
+      found-is =
+          ap (λ (qs : List ℕ). ltb (lowestLevel masks (levelOf (getD qs u 0)) (getD ms u 0)) (levelOf (getD qs u 0))) (k .prio)
+          ∙ ap (λ (qs : List ℕ). ltb (lowestLevel masks (levelOf (prioOf m u)) (getD qs u 0)) (levelOf (prioOf m u))) (k .mask)
+          ∙ ap (λ (qs : List ℕ). ltb (lowestLevel qs (levelOf (prioOf m u)) (taskOf m u .mask)) (levelOf (prioOf m u))) (k .levels)
+          ∙ go (ltb (lowestLevel (masksOf (levels m)) (levelOf (prioOf m u)) (taskOf m u .mask)) (levelOf (prioOf m u))) refl
+        where
+          go : (b : Bool) → ltb (lowestLevel (masksOf (levels m)) (levelOf (prioOf m u)) (taskOf m u .mask)) (levelOf (prioOf m u)) ≡ b → b ≡ movable m u
+          go true e = sym (found-movable m (k .well) u fit (ltb-true _ _ e))
+          go false e = sym (fails (movable m u) (λ t. absurd (contra (movable-found m (k .well) u fit t) (ltb-false _ _ e))))
+            where
+              contra : {a b : ℕ} → a < b → b ≤ a → ⊥
+              contra p q = omega arith
+
+      pub wanted-is : (floor : ℕ) → wanted masks ps ms floor u ≡ (ltb floor (prioOf m u) && movable m u)
+      unfolding wanted
+      wanted-is floor = ap₂ _&&_ (ap (λ (qs : List ℕ). ltb floor (getD qs u 0)) (k .prio)) found-is
+
+    -- a movable task that is not wanted is not above the floor
+    pub not-above : (floor u : ℕ) → In u (row m c) → wanted masks ps ms floor u ≡ false → movable m u ≡ true → prioOf m u ≤ floor
+    not-above floor u i e t = go (ltb floor (prioOf m u)) refl
+      where
+        go : (b : Bool) → ltb floor (prioOf m u) ≡ b → prioOf m u ≤ floor
+        go true q = absurd (false≢true (sym e ∙ wanted-is u i floor ∙ and-both (ltb floor (prioOf m u)) (movable m u) q t))
+        go false q = ltb-false floor (prioOf m u) q
+
+    some-prio : (u : ℕ) → In u (row m c) → 1 ≤ prioOf m u
+    some-prio u i = fit u i .prio-low
+
+    -- rows below c + 1: those below c, and row c
+    below-next : (P : ℕ → Type 0) → ((d : ℕ) → d < c → P d) → P c → (d : ℕ) → d < suc c → P d
+    below-next P old new d h = go (eqb d c) refl
+      where
+        go : (b : Bool) → eqb d c ≡ b → P d
+        go true e = subst P (sym (eqb-true d c e)) new
+        go false e = let n = eqb-false d c e in old d (lt-of-le-ne (le-of-suc-le-suc h) n)
+
+    -- nothing in this row is wanted: the best stays
+    pub keep-best : (b : Mover) → BestOf m c b → ((u : ℕ) → In u (tail (row m c)) → wanted masks ps ms (b .priority) u ≡ false) → BestOf m (suc c) b
+    keep-best b best none =
+        record {
+          none = λ z. below-next (λ (d : ℕ). (u : ℕ) → In u (tail (row m d)) → movable m u ≡ false) (λ d h u i. best .none z d h u i)
+              (λ u i. fails (movable m u) (λ t.
+              let j : In u (row m c) = tail-in u (row m c) i in
+              let low : prioOf m u ≤ b .priority = not-above (b .priority) u j (none u i) t in
+              let high : 1 ≤ prioOf m u = some-prio u j in
+              omega arith));
+          some = λ p. let f = best .some p in
+              record {
+                cpu = omega (arith, f .cpu);
+                waits = f .waits;
+                moves = f .moves;
+                prio = f .prio;
+                highest = below-next (λ (d : ℕ). (u : ℕ) → In u (tail (row m d)) → movable m u ≡ true → prioOf m u ≤ b .priority) (λ d h u i t. f .highest d h u i t)
+                    (λ u i t. not-above (b .priority) u (tail-in u (row m c) i) (none u i) t);
+                lowest-cpu = below-next (λ (d : ℕ). (u : ℕ) → In u (tail (row m d)) → movable m u ≡ true → b .priority ≤ prioOf m u → b .origin ≤ d) (λ d h u i t q. f .lowest-cpu d h u i t q)
+                    (λ u i t q. omega (arith, f .cpu));
+                earliest = f .earliest;
+              };
+        }
+
+    -- a task of this row is wanted, and none before it: it is the best
+    module _ (b : Mover) (best : BestOf m c b) (a : ℕ) (is : a ≡ ahead (wanted masks ps ms (b .priority)) (tail (row m c))) (in-reach : a < length (tail (row m c))) where
+      abbrev queue : List ℕ
+      queue = tail (row m c)
+
+      abbrev task : ℕ
+      task = getD queue a 0
+
+      task-waits : In task queue
+      task-waits = in-getD queue a in-reach
+
+      row-size-is : length (row m c) ≡ suc (length queue)
+      row-size-is = go (length-tail (row m c)) in-reach
+        where
+          go : (length (row m c) ≡ suc (length queue)) ⊎ (row m c ≡ []) → a < length queue → length (row m c) ≡ suc (length queue)
+          go (inl e) h = e
+          go (inr e) h = absurd (not-suc-le-zero (subst (λ (r : List ℕ). a < length (tail r)) e h))
+
+      is-wanted : (ltb (b .priority) (prioOf m task) && movable m task) ≡ true
+      is-wanted =
+          sym (wanted-is task (tail-in task (row m c) task-waits) (b .priority))
+          ∙ subst (λ (i : ℕ). wanted masks ps ms (b .priority) (getD queue i 0) ≡ true) (sym is)
+          (ahead-here (wanted masks ps ms (b .priority)) queue (subst (λ (i : ℕ). i < length queue) is in-reach))
+
+      pub higher : b .priority < prioOf m task
+      higher = ltb-true (b .priority) (prioOf m task) (and-left (ltb (b .priority) (prioOf m task)) (movable m task) is-wanted)
+
+      -- a movable task of the row at least as high stands at or behind it
+      behind : (u : ℕ) → In u queue → movable m u ≡ true → prioOf m task ≤ prioOf m u → a ≤ place u queue
+      behind u i t q = go (leb a (place u queue)) refl
+        where
+          go : (x : Bool) → leb a (place u queue) ≡ x → a ≤ place u queue
+          go true e = leb-true a (place u queue) e
+          go false e =
+              let before : place u queue < a = leb-false a (place u queue) e in
+              let not-wanted : wanted masks ps ms (b .priority) u ≡ false =
+              ap (wanted masks ps ms (b .priority)) (sym (place-is u queue i))
+              ∙ ahead-before (wanted masks ps ms (b .priority)) queue (place u queue) (subst (λ (x : ℕ). place u queue < x) is before) in
+              let low : prioOf m u ≤ b .priority = not-above (b .priority) u (tail-in u (row m c) i) not-wanted t in
+              absurd (let h : b .priority < prioOf m task = higher in omega arith)
+
+      -- and none is higher
+      row-highest : (u : ℕ) → In u queue → movable m u ≡ true → prioOf m u ≤ prioOf m task
+      row-highest u i t = go (leb (prioOf m u) (prioOf m task)) refl
+        where
+          go : (x : Bool) → leb (prioOf m u) (prioOf m task) ≡ x → prioOf m u ≤ prioOf m task
+          go true e = leb-true (prioOf m u) (prioOf m task) e
+          go false e =
+              let above-it : prioOf m task < prioOf m u = leb-false (prioOf m u) (prioOf m task) e in
+              let later : a ≤ place u queue = behind u i t (omega arith) in
+              let falls : prioOf m (getD (row m c) (suc (place u queue)) 0) ≤ prioOf m (getD (row m c) (suc a) 0) =
+              falling-at (prioOf m) (row m c) (k .well .falling c) (suc a) (suc (place u queue)) (omega arith) (omega (arith, row-size-is, place-lt u queue i)) in
+              let at-u : prioOf m (getD (row m c) (suc (place u queue)) 0) ≡ prioOf m u = ap (prioOf m) (sym (getD-tail (row m c) (place u queue)) ∙ place-is u queue i) in
+              let at-task : prioOf m (getD (row m c) (suc a) 0) ≡ prioOf m task = ap (prioOf m) (sym (getD-tail (row m c) a)) in
+              absurd (omega arith)
+
+      -- in the rows before, none is as high
+      older : (d : ℕ) → d < c → (u : ℕ) → In u (tail (row m d)) → movable m u ≡ true → prioOf m u ≤ b .priority
+      older d h u i t = go (ltb 0 (b .priority)) refl
+        where
+          go : (x : Bool) → ltb 0 (b .priority) ≡ x → prioOf m u ≤ b .priority
+          go true e = best .some (ltb-true 0 (b .priority) e) .highest d h u i t
+          go false e =
+              let z : b .priority ≡ 0 = le-zero (ltb-false 0 (b .priority) e) in
+              absurd (false≢true (sym (best .none z d h u i) ∙ t))
+
+      pub new-best : (new : Mover) → new .task ≡ task → new .origin ≡ c → new .priority ≡ prioOf m task → BestOf m (suc c) new
+      new-best new et eo ep =
+          record {
+            none = λ z. absurd (zero-prio z);
+            some = λ p.
+                record {
+                  cpu = omega arith;
+                  waits = subst (λ (d : ℕ). In (new .task) (tail (row m d))) (sym eo) (subst (λ (t : ℕ). In t queue) (sym et) task-waits);
+                  moves = subst (λ (t : ℕ). movable m t ≡ true) (sym et) (and-right (ltb (b .priority) (prioOf m task)) (movable m task) is-wanted);
+                  prio = ep ∙ ap (prioOf m) (sym et);
+                  highest = below-next (λ (d : ℕ). (u : ℕ) → In u (tail (row m d)) → movable m u ≡ true → prioOf m u ≤ new .priority)
+                      (λ d h u i t. let low : prioOf m u ≤ b .priority = older d h u i t in omega (arith, higher))
+                      (λ u i t. let low : prioOf m u ≤ prioOf m task = row-highest u i t in omega arith);
+                  lowest-cpu = below-next (λ (d : ℕ). (u : ℕ) → In u (tail (row m d)) → movable m u ≡ true → new .priority ≤ prioOf m u → new .origin ≤ d)
+                      (λ d h u i t q. absurd (let low : prioOf m u ≤ b .priority = older d h u i t in let up : b .priority < prioOf m task = higher in omega arith))
+                      (λ u i t q. omega arith);
+                  earliest = subst (λ (d : ℕ). (u : ℕ) → In u (tail (row m d)) → movable m u ≡ true → new .priority ≤ prioOf m u → place (new .task) (row m d) ≤ place u (row m d)) (sym eo)
+                      (λ u i t q. first u i t (omega arith));
+                };
+          }
+        where
+          zero-prio : new .priority ≡ 0 → ⊥
+          zero-prio z = omega (arith, higher)
+
+          first : (u : ℕ) → In u queue → movable m u ≡ true → prioOf m task ≤ prioOf m u → place (new .task) (row m c) ≤ place u (row m c)
+          first u i t q =
+              let mine : place (new .task) (row m c) ≤ suc a = place-le (new .task) (row m c) (suc a) (sym (getD-tail (row m c) a) ∙ sym et) in
+              let later : a ≤ place u queue = behind u i t q in
+              let its : place u (row m c) ≡ suc (place u queue) = place-tail u (row m c) (once m u c (k .well)) i in
+              omega arith

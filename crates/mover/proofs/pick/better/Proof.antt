@@ -1,0 +1,194 @@
+-- `mover::pick::better` meets its contract. Assumes nothing.
+use borrow.Author.Needs.{needs}
+use mathlib.Core.Path.{_≡_, refl, sym, ap, _∙_, subst}
+use mathlib.Core.Bool.{Bool, false}
+use mathlib.Core.Logic.{_⊎_, inl, inr}
+use mathlib.Core.List.{List, [], _∷_, tail}
+use Prim.Native.Nat.{ℕ, suc, _+_, _-_, _*_, _≤_, _<_}
+use native.Mathlib.Nat.{not-suc-le-zero, le-of-suc-le-suc}
+use native.Mathlib.Omega.{arith}
+use lib.ListN.{length, getD, take, drop}
+use Rattle.rules.specs.Lists.{In}
+use Rattle.rules.specs.Machine.{Machine, row}
+use Rattle.rules.proofs.Lists.{not-in-nil, in-getD}
+use Rattle.rules.proofs.Order.{place-lt, place-is}
+use Rattle.rules.specs.Lists.{place}
+use Rattle.runqueue.specs.Row.{ahead}
+use Rattle.runqueue.specs.Table.{rowAt}
+use Rattle.runqueue.proofs.Places.{ahead-before, ahead-le}
+use Rattle.runqueue.proofs.Flat.{rows-fit, place-at, as-counted}
+use Rattle.placement.proofs.Order.{above}
+use Rattle.mover.specs.Wanted.{wanted, Searchable}
+use Rattle.mover.specs.Foremost.{Looking}
+use Rattle.mover.proofs.Candidates.{length-tail, getD-tail, looking-held, looking-rows, looking-cpus, row-is, row-count, part-is-row, searchable, keep-best, new-best}
+use Rattle.mover.proofs.pick.better.Statement.{statement}
+use Rattle.mover.proofs.pick.better.Tie as tie
+
+-- a row of fewer than two tasks has none that waits
+short : (r : List ℕ) (u : ℕ) → length r < 2 → In u (tail r) → ⊥
+short [] u h i = not-in-nil u i
+short (x ∷ []) u h i = not-in-nil u i
+short (x ∷ (y ∷ r)) u h i = not-suc-le-zero (le-of-suc-le-suc (le-of-suc-le-suc h))
+
+-- the scan came to the end: nothing that waits is wanted
+none-wanted : (p : ℕ → Bool) (r : List ℕ) → suc (ahead p (tail r)) ≡ length r → (u : ℕ) → In u (tail r) → p u ≡ false
+none-wanted p r e u i = go (length-tail r)
+  where
+    go : (length r ≡ suc (length (tail r))) ⊎ (r ≡ []) → p u ≡ false
+    go (inl s) = ap p (sym (place-is u (tail r) i)) ∙ ahead-before p (tail r) (place u (tail r)) (omega (arith, place-lt u (tail r) i))
+    go (inr z) = absurd (not-in-nil u (subst (λ (q : List ℕ). In u (tail q)) z i))
+
+tail-reach : (r : List ℕ) (at : ℕ) → 1 ≤ at → at < length r → at - 1 < length (tail r)
+tail-reach r at h l = go (length-tail r)
+  where
+    go : (length r ≡ suc (length (tail r))) ⊎ (r ≡ []) → at - 1 < length (tail r)
+    go (inl s) = omega arith
+    go (inr z) = absurd (let e : length r ≡ 0 = ap length z in omega arith)
+
+module _ (a : tie.Start) (m : Machine) (k : Looking m (a .args .prio .now) (a .args .mask .now) (a .args .counts .now) (a .args .rows .now) (a .args .masks .now)) (h : a .args .cpu < m .n) where
+  -- what the scan says, of the machine's row
+  scanned : (at : ℕ)
+      → at ≡ suc (ahead (wanted (a .args .masks .now) (a .args .prio .now) (a .args .mask .now) (a .args .best .priority)) (tail (take (getD (a .args .counts .now) (a .args .cpu) 0) (take (a .args .cpu * 512 + 512 - a .args .cpu * 512) (drop (a .args .cpu * 512) (a .args .rows .now))))))
+      → at ≡ suc (ahead (wanted (a .args .masks .now) (a .args .prio .now) (a .args .mask .now) (a .args .best .priority)) (tail (row m (a .args .cpu))))
+  scanned at e =
+      e ∙ ap (λ (r : List ℕ). suc (ahead (wanted (a .args .masks .now) (a .args .prio .now) (a .args .mask .now) (a .args .best .priority)) (tail r)))
+      (as-counted (a .args .cpu) (λ (s n : ℕ). take (getD (a .args .counts .now) (a .args .cpu) 0) (take n (drop s (a .args .rows .now))) ≡ row m (a .args .cpu)) (part-is-row m _ _ _ _ _ k (a .args .cpu) h))
+
+  -- the task at a place of the row
+  task-is : (at : ℕ) → 1 ≤ at → at < length (row m (a .args .cpu)) → getD (a .args .rows .now) (a .args .cpu * 512 + at) 0 ≡ getD (tail (row m (a .args .cpu))) (at - 1) 0
+  task-is at s l =
+      let e : suc (at - 1) ≡ at = omega arith in
+      place-at (a .args .counts .now) (a .args .rows .now) (looking-rows m _ _ _ _ _ k) (a .args .cpu) (omega (arith, looking-cpus m _ _ _ _ _ k)) at (omega (arith, ap length (row-is m _ _ _ _ _ k (a .args .cpu) h)))
+      ∙ ap (λ (r : List ℕ). getD r at 0) (row-is m _ _ _ _ _ k (a .args .cpu) h)
+      ∙ ap (λ (i : ℕ). getD (row m (a .args .cpu)) i 0) (sym e) ∙ sym (getD-tail (row m (a .args .cpu)) (at - 1))
+
+-- the place that was found is within the row
+within : (c : tie.Else2) → (1 ≤ c .before .scan .result) × (c .before .scan .result < getD (c .before .before .before .before .before .before .before .before .before .args .counts .now) (c .before .before .before .before .before .before .before .before .before .args .cpu) 0) × (getD (c .before .before .before .before .before .before .before .before .before .args .counts .now) (c .before .before .before .before .before .before .before .before .before .args .cpu) 0 ≤ 512)
+within c =
+    let a = c .before .before .before .before .before .before .before .before .before in
+    let r = row (a .pre .0) (a .args .cpu) in
+    let n = row-count (a .pre .0) _ _ _ _ _ (a .pre .1 .0) (a .args .cpu) (a .pre .1 .1) in
+    let found = scanned a (a .pre .0) (a .pre .1 .0) (a .pre .1 .1) (c .before .scan .result) (c .before .scan .ensures) in
+    let most = ahead-le (wanted (a .args .masks .now) (a .args .prio .now) (a .args .mask .now) (a .args .best .priority)) (tail r) in
+    let two : 2 ≤ getD (a .args .counts .now) (a .args .cpu) 0 = c .before .before .before .if1 .left in
+    let size : length r ≡ suc (length (tail r)) = nonempty r (omega arith) in
+    (omega arith, omega (arith, c .if2 .left), omega (arith, looking-held (a .pre .0) _ _ _ _ _ (a .pre .1 .0) .order .fits (a .args .cpu)))
+  where
+    nonempty : (r : List ℕ) → 1 ≤ length r → length r ≡ suc (length (tail r))
+    nonempty [] h = absurd (not-suc-le-zero h)
+    nonempty (x ∷ xs) h = refl
+
+-- and is a task
+task-ok : (c : tie.Else2) → getD (c .before .before .before .before .before .before .before .before .before .args .rows .now) (c .before .before .before .before .before .before .before .before .before .args .cpu * 512 + c .before .scan .result) 0 < 512
+task-ok c =
+    let a = c .before .before .before .before .before .before .before .before .before in
+    let m = a .pre .0 in
+    let w = within c in
+    let n = row-count m _ _ _ _ _ (a .pre .1 .0) (a .args .cpu) (a .pre .1 .1) in
+    let size = ap length (row-is m _ _ _ _ _ (a .pre .1 .0) (a .args .cpu) (a .pre .1 .1)) in
+    let at = c .before .scan .result in
+    subst (λ (u : ℕ). u < 512)
+    (sym (place-at (a .args .counts .now) (a .args .rows .now) (looking-rows m _ _ _ _ _ (a .pre .1 .0)) (a .args .cpu) (omega (arith, looking-cpus m _ _ _ _ _ (a .pre .1 .0), a .pre .1 .1)) at (omega arith)))
+    (above m _ _ _ _ (looking-held m _ _ _ _ _ (a .pre .1 .0)) (a .args .cpu) _ (in-getD (rowAt (a .args .counts .now) (a .args .rows .now) (a .args .cpu)) at (omega arith)) .0)
+
+mul-count : tie.Need-mul-count
+mul-count c = search needs
+
+shared-slice-read-count : tie.Need-shared-slice-read-count
+shared-slice-read-count c = (omega (arith, looking-cpus (c .before .before .before .before .before .pre .0) _ _ _ _ _ (c .before .before .before .before .before .pre .1 .0), c .before .before .before .before .before .pre .1 .1))
+
+cast-count : tie.Need-cast-count
+cast-count c = omega (arith, c .shared-slice-known5 .given (c .before .before .before .before .before .args .cpu))
+
+returns : tie.Need-returns
+returns c =
+    λ m k h best.
+    let n = row-count m _ _ _ _ _ k (c .before .before .before .before .before .before .args .cpu) h in
+    keep-best m _ _ _ _ _ k (c .before .before .before .before .before .before .args .cpu) h (c .before .before .before .before .before .before .args .best) best (λ u i. absurd (short (row m (c .before .before .before .before .before .before .args .cpu)) u (omega arith) i))
+
+mul-start : tie.Need-mul-start
+mul-start c = let h : c .before .before .before .before .before .before .args .cpu < length (c .before .before .before .before .before .before .args .counts .now) = omega (arith, looking-cpus (c .before .before .before .before .before .before .pre .0) _ _ _ _ _ (c .before .before .before .before .before .before .pre .1 .0), c .before .before .before .before .before .before .pre .1 .1) in let f = rows-fit _ _ (looking-rows (c .before .before .before .before .before .before .pre .0) _ _ _ _ _ (c .before .before .before .before .before .before .pre .1 .0)) (c .before .before .before .before .before .before .args .cpu) h in omega arith
+
+add-scan : tie.Need-add-scan
+add-scan c = let h : c .before .before .before .before .before .before .args .cpu < length (c .before .before .before .before .before .before .args .counts .now) = omega (arith, looking-cpus (c .before .before .before .before .before .before .pre .0) _ _ _ _ _ (c .before .before .before .before .before .before .pre .1 .0), c .before .before .before .before .before .before .pre .1 .1) in let f = rows-fit _ _ (looking-rows (c .before .before .before .before .before .before .pre .0) _ _ _ _ _ (c .before .before .before .before .before .before .pre .1 .0)) (c .before .before .before .before .before .before .args .cpu) h in omega arith
+
+mul-scan : tie.Need-mul-scan
+mul-scan c = let h : c .before .before .before .before .before .before .args .cpu < length (c .before .before .before .before .before .before .args .counts .now) = omega (arith, looking-cpus (c .before .before .before .before .before .before .pre .0) _ _ _ _ _ (c .before .before .before .before .before .before .pre .1 .0), c .before .before .before .before .before .before .pre .1 .1) in let f = rows-fit _ _ (looking-rows (c .before .before .before .before .before .before .pre .0) _ _ _ _ _ (c .before .before .before .before .before .before .pre .1 .0)) (c .before .before .before .before .before .before .args .cpu) h in omega arith
+
+sub-scan : tie.Need-sub-scan
+sub-scan c = omega arith
+
+part-scan-start : tie.Need-part-scan-start
+part-scan-start c = omega arith
+
+part-scan-end : tie.Need-part-scan-end
+part-scan-end c = let h : c .before .before .before .before .before .before .args .cpu < length (c .before .before .before .before .before .before .args .counts .now) = omega (arith, looking-cpus (c .before .before .before .before .before .before .pre .0) _ _ _ _ _ (c .before .before .before .before .before .before .pre .1 .0), c .before .before .before .before .before .before .pre .1 .1) in let f = rows-fit _ _ (looking-rows (c .before .before .before .before .before .before .pre .0) _ _ _ _ _ (c .before .before .before .before .before .before .pre .1 .0)) (c .before .before .before .before .before .before .args .cpu) h in omega arith
+
+scan-requires : tie.Need-scan-requires
+scan-requires c κs =
+    let a = c .before .before .before .before .before .before .before in
+    let n = row-count (a .pre .0) _ _ _ _ _ (a .pre .1 .0) (a .args .cpu) (a .pre .1 .1) in
+    as-counted (a .args .cpu) (λ (s k : ℕ). Searchable (a .args .prio .now) (a .args .mask .now) (take k (drop s (a .args .rows .now))) (getD (a .args .counts .now) (a .args .cpu) 0))
+    (searchable (a .pre .0) _ _ _ _ _ (a .pre .1 .0) (a .args .cpu) (a .pre .1 .1) (omega arith))
+
+returns-2 : tie.Need-returns-2
+returns-2 c =
+    λ m k h best.
+    let a = c .before .before .before .before .before .before .before .before .before in
+    let r = row m (a .args .cpu) in
+    let n = row-count m _ _ _ _ _ k (a .args .cpu) h in
+    let found : c .before .scan .result ≡ suc (ahead (wanted (a .args .masks .now) (a .args .prio .now) (a .args .mask .now) (a .args .best .priority)) (tail r)) = scanned a m k h (c .before .scan .result) (c .before .scan .ensures) in
+    keep-best m _ _ _ _ _ k (a .args .cpu) h (a .args .best) best
+    (none-wanted (wanted (a .args .masks .now) (a .args .prio .now) (a .args .mask .now) (a .args .best .priority)) r (omega (arith, c .if2 .taken)))
+
+add-task : tie.Need-add-task
+add-task c = let h : c .before .before .before .before .before .before .before .before .before .args .cpu < length (c .before .before .before .before .before .before .before .before .before .args .counts .now) = omega (arith, looking-cpus (c .before .before .before .before .before .before .before .before .before .pre .0) _ _ _ _ _ (c .before .before .before .before .before .before .before .before .before .pre .1 .0), c .before .before .before .before .before .before .before .before .before .pre .1 .1) in let f = rows-fit _ _ (looking-rows (c .before .before .before .before .before .before .before .before .before .pre .0) _ _ _ _ _ (c .before .before .before .before .before .before .before .before .before .pre .1 .0)) (c .before .before .before .before .before .before .before .before .before .args .cpu) h in let w = within c in omega arith
+
+mul-task : tie.Need-mul-task
+mul-task c = let h : c .before .before .before .before .before .before .before .before .before .args .cpu < length (c .before .before .before .before .before .before .before .before .before .args .counts .now) = omega (arith, looking-cpus (c .before .before .before .before .before .before .before .before .before .pre .0) _ _ _ _ _ (c .before .before .before .before .before .before .before .before .before .pre .1 .0), c .before .before .before .before .before .before .before .before .before .pre .1 .1) in let f = rows-fit _ _ (looking-rows (c .before .before .before .before .before .before .before .before .before .pre .0) _ _ _ _ _ (c .before .before .before .before .before .before .before .before .before .pre .1 .0)) (c .before .before .before .before .before .before .before .before .before .args .cpu) h in let w = within c in omega arith
+
+shared-slice-read-task : tie.Need-shared-slice-read-task
+shared-slice-read-task c = let h : c .before .before .before .before .before .before .before .before .before .before .args .cpu < length (c .before .before .before .before .before .before .before .before .before .before .args .counts .now) = omega (arith, looking-cpus (c .before .before .before .before .before .before .before .before .before .before .pre .0) _ _ _ _ _ (c .before .before .before .before .before .before .before .before .before .before .pre .1 .0), c .before .before .before .before .before .before .before .before .before .before .pre .1 .1) in let f = rows-fit _ _ (looking-rows (c .before .before .before .before .before .before .before .before .before .before .pre .0) _ _ _ _ _ (c .before .before .before .before .before .before .before .before .before .before .pre .1 .0)) (c .before .before .before .before .before .before .before .before .before .before .args .cpu) h in let w = within (c .before) in omega arith
+
+cast-priority : tie.Need-cast-priority
+cast-priority c = omega (arith, c .shared-slice-known6 .given (c .before .before .before .before .before .before .before .before .before .before .args .cpu * 512 + c .before .before .scan .result))
+
+shared-slice-read-priority : tie.Need-shared-slice-read-priority
+shared-slice-read-priority c = let t = task-ok (c .before .before) in omega (arith, t, ap length (c .before .before .before .before .before .before .before .before .before .before .before .pre .1 .0 .prio), c .before .before .before .before .before .before .before .before .before .before .before .pre .1 .0 .well .shape .prio)
+
+returns-3 : tie.Need-returns-3
+returns-3 c =
+    λ m k h best.
+    let a = c .before .before .before .before .before .before .before .before .before .before .before in
+    let r = row m (a .args .cpu) in
+    let at = c .before .before .before .scan .result in
+    let n = row-count m _ _ _ _ _ k (a .args .cpu) h in
+    let found : at ≡ suc (ahead (wanted (a .args .masks .now) (a .args .prio .now) (a .args .mask .now) (a .args .best .priority)) (tail r)) = scanned a m k h at (c .before .before .before .scan .ensures) in
+    let w = within (c .before .before) in
+    let index : at - 1 ≡ ahead (wanted (a .args .masks .now) (a .args .prio .now) (a .args .mask .now) (a .args .best .priority)) (tail r) = omega arith in
+    let reach : at - 1 < length (tail r) = tail-reach r at (omega arith) (omega arith) in
+    let place : getD (a .args .rows .now) (a .args .cpu * 512 + at) 0 ≡ getD (tail r) (at - 1) 0 = task-is a m k h at (omega arith) (omega arith) in
+    new-best m _ _ _ _ _ k (a .args .cpu) h (a .args .best) best (at - 1) index reach _ place refl (ap (λ (u : ℕ). getD (a .args .prio .now) u 0) place ∙ ap (λ (qs : List ℕ). getD qs (getD (tail r) (at - 1) 0) 0) (k .prio))
+
+pub better-spec : {M : Type 1} → statement M
+better-spec =
+    tie.close
+    (tie.spec
+    mul-count
+    shared-slice-read-count
+    cast-count
+    returns
+    mul-start
+    add-scan
+    mul-scan
+    sub-scan
+    part-scan-start
+    part-scan-end
+    scan-requires
+    returns-2
+    add-task
+    mul-task
+    shared-slice-read-task
+    cast-priority
+    shared-slice-read-priority
+    returns-3)

@@ -1,0 +1,184 @@
+-- `mover::scan::scan` meets its contract. The loop's invariant: no task passed is wanted. Assumes nothing.
+use mathlib.Core.Path.{_≡_, refl, sym, ap, _∙_, subst}
+use mathlib.Core.Bool.{Bool, true, false, _&&_}
+use mathlib.Core.List.{List, [], _∷_, tail}
+use Prim.Native.Nat.{ℕ, suc, _+_, _-_, _≤_, _<_}
+use native.Mathlib.Nat.{suc-ne-zero, suc-inj}
+use native.Mathlib.Omega.{arith}
+use lib.Arith.{lt-of-le-ne}
+use lib.Dec.{ltb, leb, eqb}
+use lib.ListN.{length, getD, take}
+use lib.Seq.{getD-take, length-take-le}
+use borrow.Author.Tests.{lt-ltb, le-ltb, eqb-true, eqb-false, leb-true, leb-false}
+use Rattle.bits.proofs.Tests.{and-both}
+use Rattle.rules.proofs.Lists.{falling-at}
+use Rattle.runqueue.specs.Row.{ahead}
+use Rattle.runqueue.proofs.Places.{ahead-is}
+use Rattle.mover.specs.Wanted.{findable, wanted, Searchable}
+use Rattle.mover.proofs.scan.scan.Statement.{statement}
+use Rattle.mover.proofs.scan.scan.Tie as tie
+
+none : {k n : ℕ} → n ≤ k → k < n → ⊥
+none h l = omega arith
+
+self : {k : ℕ} → k < k → ⊥
+self h = omega arith
+
+-- one more index
+more : (P : ℕ → Type 0) (at : ℕ) → ((k : ℕ) → 1 ≤ k → k < at → P k) → P at → (k : ℕ) → 1 ≤ k → k < at + 1 → P k
+more P at old new k h l = go (eqb k at) refl
+  where
+    go : (b : Bool) → eqb k at ≡ b → P k
+    go true e = subst P (sym (eqb-true k at e)) new
+    go false e = let d = eqb-false k at e in old k h (lt-of-le-ne (omega arith) d)
+
+module _ (masks ps ms : List ℕ) (floor u : ℕ) where
+  -- not above the floor, or no CPU below it
+  too-low : getD ps u 0 ≤ floor → wanted masks ps ms floor u ≡ false
+  unfolding wanted
+  too-low h = ap (λ (b : Bool). b && findable masks ps ms u) (le-ltb floor (getD ps u 0) h)
+
+  unwanted : findable masks ps ms u ≡ false → wanted masks ps ms floor u ≡ false
+  unfolding wanted
+  unwanted e = ap (λ (b : Bool). ltb floor (getD ps u 0) && b) e ∙ go (ltb floor (getD ps u 0))
+    where
+      go : (b : Bool) → (b && false) ≡ false
+      go true = refl
+      go false = refl
+
+getD-tail : (xs : List ℕ) (k : ℕ) → getD (tail xs) k 0 ≡ getD xs (suc k) 0
+getD-tail [] k = refl
+getD-tail (x ∷ xs) k = refl
+
+length-tail : (xs : List ℕ) (n : ℕ) → length xs ≡ suc n → length (tail xs) ≡ n
+length-tail [] n e = absurd (suc-ne-zero n (sym e))
+length-tail (x ∷ xs) n e = suc-inj e
+
+module _ (masks ps ms row : List ℕ) (count floor : ℕ) (ok : Searchable ps ms row count) where
+  queue : List ℕ
+  queue = tail (take count row)
+
+  at-queue : (k : ℕ) → suc k < count → getD (tail (take count row)) k 0 ≡ getD row (suc k) 0
+  at-queue k h = getD-tail (take count row) k ∙ getD-take count row (suc k) 0 h
+
+  size : length (tail (take count row)) ≡ count - 1
+  size = length-tail (take count row) (count - 1) (length-take-le count row (ok .most) ∙ omega (arith, ok .some))
+
+  -- the walk ends at `at`: none before it is wanted, and it is the end or wanted
+  scan-is : (at : ℕ) → 1 ≤ at → at ≤ count → ((k : ℕ) → 1 ≤ k → k < at → wanted masks ps ms floor (getD row k 0) ≡ false)
+      → (at < count → wanted masks ps ms floor (getD row at 0) ≡ true) → suc (ahead (wanted masks ps ms floor) (tail (take count row))) ≡ at
+  scan-is at h l before here =
+      ap suc (ahead-is (wanted masks ps ms floor) (tail (take count row)) (at - 1) (omega (arith, size))
+      (λ k b. ap (wanted masks ps ms floor) (at-queue k (omega arith)) ∙ before (suc k) (omega arith) (omega arith))
+      (λ b. let in-reach : at < count = omega (arith, size) in
+      ap (wanted masks ps ms floor) (at-queue (at - 1) (omega arith)) ∙ ap (λ (k : ℕ). wanted masks ps ms floor (getD row k 0)) (let e : suc (at - 1) ≡ at = omega arith in e) ∙ here in-reach))
+      ∙ (let e : suc (at - 1) ≡ at = omega arith in e)
+
+  -- a task that is not above the floor: none behind it is
+  past : (at : ℕ) → at < count → ((k : ℕ) → 1 ≤ k → k < at → wanted masks ps ms floor (getD row k 0) ≡ false) → getD ps (getD row at 0) 0 ≤ floor
+      → (k : ℕ) → 1 ≤ k → k < count → wanted masks ps ms floor (getD row k 0) ≡ false
+  past at l before low k h m = go (leb at k) refl
+    where
+      whole : length (take count row) ≡ count
+      whole = length-take-le count row (ok .most)
+
+      go : (b : Bool) → leb at k ≡ b → wanted masks ps ms floor (getD row k 0) ≡ false
+      go true e =
+          let behind : at ≤ k = leb-true at k e in
+          let falls : getD ps (getD (take count row) k 0) 0 ≤ getD ps (getD (take count row) at 0) 0 =
+          falling-at (λ (u : ℕ). getD ps u 0) (take count row) (ok .falling) at k behind (omega (arith, whole)) in
+          let same-k : getD ps (getD (take count row) k 0) 0 ≡ getD ps (getD row k 0) 0 = ap (λ (u : ℕ). getD ps u 0) (getD-take count row k 0 m) in
+          let same-at : getD ps (getD (take count row) at 0) 0 ≡ getD ps (getD row at 0) 0 = ap (λ (u : ℕ). getD ps u 0) (getD-take count row at 0 l) in
+          too-low masks ps ms floor (getD row k 0) (omega arith)
+      go false e = before k h (leb-false at k e)
+
+abbrev Inv-loop : tie.InvT-loop
+Inv-loop row prio mask masks count floor at₀ at = (1 ≤ at) × (at ≤ count) × ((k : ℕ) → 1 ≤ k → k < at → wanted masks prio mask floor (getD row k 0) ≡ false)
+
+abbrev μ-loop : tie.MeasureT-loop
+μ-loop row prio mask masks count floor at₀ at = count - at
+
+loop-holds : tie.Need-loop-holds Inv-loop μ-loop
+loop-holds c = (omega arith, c .before .before .before .pre .some, (λ k h l. absurd (none h l)))
+
+mul-task : tie.Need-mul-task Inv-loop μ-loop
+mul-task c = let m = c .before .before .before .before .before .pre .most in omega arith
+
+shared-slice-read-task : tie.Need-shared-slice-read-task Inv-loop μ-loop
+shared-slice-read-task c = let m = c .before .before .before .before .before .before .pre .most in omega arith
+
+cast-task : tie.Need-cast-task Inv-loop μ-loop
+cast-task c = omega (arith, c .shared-slice-known4 .given (c .before .before .loop .at))
+
+shared-slice-read-priority : tie.Need-shared-slice-read-priority Inv-loop μ-loop
+shared-slice-read-priority c = let p = c .before .before .before .before .before .before .before .pre in omega (arith, p .tasks (c .before .before .before .loop .at) (omega arith), p .prios)
+
+returns : tie.Need-returns Inv-loop μ-loop
+returns c =
+    let a = c .before .before .before .before .before .before .before .before in
+    let l = c .before .before .before .before .loop in
+    sym (scan-is (a .args .masks .now) (a .args .prio .now) (a .args .mask .now) (a .args .row .now) (a .args .count) (a .args .floor) (a .pre) (a .args .count) (a .pre .some) (omega arith)
+    (λ k h m. past (a .args .masks .now) (a .args .prio .now) (a .args .mask .now) (a .args .row .now) (a .args .count) (a .args .floor) (a .pre) (l .at) (omega arith) (l .inv .2) (c .if1 .taken) k h m) (λ h. absurd (self h)))
+
+mul-has-lower-cpu : tie.Need-mul-has-lower-cpu Inv-loop μ-loop
+mul-has-lower-cpu c = let p = c .before .before .before .before .before .before .before .before .pre in omega (arith, p .tasks (c .before .before .before .before .loop .at) (omega arith))
+
+shared-slice-read-has-lower-cpu : tie.Need-shared-slice-read-has-lower-cpu Inv-loop μ-loop
+shared-slice-read-has-lower-cpu c = let p = c .before .before .before .before .before .before .before .before .before .pre in omega (arith, p .tasks (c .before .before .before .before .before .loop .at) (omega arith), p .masks)
+
+has-lower-cpu-requires : tie.Need-has-lower-cpu-requires Inv-loop μ-loop
+has-lower-cpu-requires c κs = c .before .before .before .before .before .before .before .before .before .pre .high (c .before .before .before .before .before .loop .at) (omega arith)
+
+returns-2 : tie.Need-returns-2 Inv-loop μ-loop
+unfolding wanted findable
+returns-2 c =
+    let a = c .before .before .before .before .before .before .before .before .before .before .before in
+    let l = c .before .before .before .before .before .before .before .loop in
+    sym (scan-is (a .args .masks .now) (a .args .prio .now) (a .args .mask .now) (a .args .row .now) (a .args .count) (a .args .floor) (a .pre) (l .at) (l .inv .0) (omega arith) (l .inv .2)
+    (λ h. and-both (ltb (a .args .floor) (getD (a .args .prio .now) (getD (a .args .row .now) (l .at) 0) 0)) (findable (a .args .masks .now) (a .args .prio .now) (a .args .mask .now) (getD (a .args .row .now) (l .at) 0))
+    (lt-ltb _ _ (c .before .before .before .if1 .left)) (sym (c .before .has-lower-cpu .ensures) ∙ c .if2 .taken)))
+
+add-at : tie.Need-add-at Inv-loop μ-loop
+add-at c = omega arith
+
+loop-less : tie.Need-loop-less Inv-loop μ-loop
+loop-less c = omega arith
+
+loop-again : tie.Need-loop-again Inv-loop μ-loop
+unfolding findable
+loop-again c =
+    let a = c .before .before .before .before .before .before .before .before .before .before .before in
+    let l = c .before .before .before .before .before .before .before .loop in (
+      omega arith,
+      omega arith,
+      more (λ (k : ℕ). wanted (a .args .masks .now) (a .args .prio .now) (a .args .mask .now) (a .args .floor) (getD (a .args .row .now) k 0) ≡ false) (l .at) (l .inv .2)
+          (unwanted (a .args .masks .now) (a .args .prio .now) (a .args .mask .now) (a .args .floor) (getD (a .args .row .now) (l .at) 0) (sym (c .before .has-lower-cpu .ensures) ∙ c .if2 .left)),
+    )
+
+returns-3 : tie.Need-returns-3 Inv-loop μ-loop
+returns-3 c =
+    let a = c .before .before .before .before .before in
+    let l = c .before .loop in
+    sym (scan-is (a .args .masks .now) (a .args .prio .now) (a .args .mask .now) (a .args .row .now) (a .args .count) (a .args .floor) (a .pre) (a .args .count) (a .pre .some) (omega arith)
+    (λ k h m. l .inv .2 k h (omega arith)) (λ h. absurd (self h)))
+
+pub scan-spec : {M : Type 1} → statement M
+scan-spec =
+    tie.close
+    (tie.spec
+    Inv-loop
+    μ-loop
+    loop-holds
+    mul-task
+    shared-slice-read-task
+    cast-task
+    shared-slice-read-priority
+    returns
+    mul-has-lower-cpu
+    shared-slice-read-has-lower-cpu
+    has-lower-cpu-requires
+    returns-2
+    add-at
+    loop-less
+    loop-again
+    returns-3)

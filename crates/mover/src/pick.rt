@@ -1,0 +1,80 @@
+// The mover: the movable task of highest priority, among equals the one on the lowest-numbered CPU, and
+// among those the earliest in its row.
+ghost use mathlib.Core.Path.{_≡_};
+ghost use Prim.Native.Nat.{suc, _<_};
+ghost use Rattle.rules.specs.Machine.{Machine};
+ghost use Rattle.mover.specs.Foremost.{Looking, BestOf};
+use super::scan::scan;
+use cpupri::record::LEVELS;
+use runqueue::row::PLACES;
+
+// A candidate, and the CPU it waits on. Priority 0: there is none.
+pub struct Mover {
+    pub task: u16,
+    pub origin: usize,
+    pub priority: u8,
+}
+
+// The mover of a machine of n CPUs. A row is left at the first task that cannot beat the best so far.
+pub fn pick(
+    n: usize,
+    prio: &[u8],
+    mask: &[u64],
+    rows: &[u16],
+    counts: &[u16],
+    masks: &[u64; LEVELS],
+) -> Mover
+    requires { ⌜ ((m : Machine) × (Looking m (now prio) (now mask) (now counts) (now rows) (now masks) × (n ≡ m .n))) ⌝ }
+    ensures { λ r. ⌜ ((m : Machine) → Looking m (now (prio .entry)) (now (mask .entry)) (now (counts .entry)) (now (rows .entry)) (now (masks .entry)) → n ≡ m .n → BestOf m n r) ⌝ }
+{
+    let mut best = Mover {
+        task: 0,
+        origin: 0,
+        priority: 0,
+    };
+    let mut cpu = 0;
+    while cpu < n {
+        best = better(best, cpu, prio, mask, rows, counts, masks);
+        cpu += 1;
+    }
+    best
+}
+
+// The better of the best so far and the waiting tasks of one more CPU.
+fn better(
+    best: Mover,
+    cpu: usize,
+    prio: &[u8],
+    mask: &[u64],
+    rows: &[u16],
+    counts: &[u16],
+    masks: &[u64; LEVELS],
+) -> Mover
+    requires { ⌜ ((m : Machine) × (Looking m (now prio) (now mask) (now counts) (now rows) (now masks) × (cpu < m .n))) ⌝ }
+    ensures { λ r. ⌜ ((m : Machine) → Looking m (now (prio .entry)) (now (mask .entry)) (now (counts .entry)) (now (rows .entry)) (now (masks .entry)) → cpu < m .n → BestOf m cpu best → BestOf m (suc cpu) r) ⌝ }
+{
+    let count = counts[cpu] as usize;
+    if count < 2 {
+        return best;
+    }
+    let start = cpu * PLACES;
+    let floor = best.priority;
+    let at = scan(
+        &rows[start..start + PLACES],
+        prio,
+        mask,
+        masks,
+        count,
+        floor,
+    );
+    if at == count {
+        return best;
+    }
+    let task = rows[start + at];
+    let priority = prio[task as usize];
+    Mover {
+        task,
+        origin: cpu,
+        priority,
+    }
+}

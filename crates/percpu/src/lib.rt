@@ -1,0 +1,3 @@
+// Kinds 7 to 9: events of a CPU.
+pub mod current;
+pub mod ordinary;

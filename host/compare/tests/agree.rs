@@ -1,0 +1,69 @@
+//! Small runs of the modes: our library and the reference agree.
+
+use compare::counters::{Counters, REFUSALS};
+use compare::vectors::{wrong, Side};
+use compare::{damaged, exhaustive, random, sweep};
+use reference::Mutant;
+
+fn none(failure: Option<compare::case::Failure>) {
+    if let Some(failure) = failure {
+        panic!("{}", failure.cut_down());
+    }
+}
+
+#[test]
+fn the_library_gives_the_marked_examples() {
+    assert_eq!(wrong(Side::Ours), Vec::<String>::new());
+}
+
+#[test]
+fn the_reference_gives_the_marked_examples() {
+    assert_eq!(wrong(Side::Theirs(Mutant::None)), Vec::<String>::new());
+}
+
+#[test]
+fn random_machines() {
+    let mut counters = Counters::default();
+    none(random::run(2, 10_000, Mutant::None, &mut counters));
+    assert_eq!(counters.most_moves(), 63);
+    assert!((1..=9).all(|kind| counters.accepted[kind] > 0));
+}
+
+#[test]
+fn damaged_tables() {
+    let mut counters = Counters::default();
+    none(damaged::run(2, 10_000, Mutant::None, &mut counters));
+    assert!((1..=9).all(|number| counters.answers[2][number] > 0));
+}
+
+#[test]
+fn every_length_place_and_number() {
+    let mut counters = Counters::default();
+    none(sweep::run(Mutant::None, &mut counters));
+    // All refusals but the finder's, whose questions are those of `finder_questions`.
+    for (entry, number) in REFUSALS.into_iter().filter(|&(entry, _)| entry < 3) {
+        assert!(counters.answers[entry][number] > 0);
+    }
+}
+
+#[test]
+fn small_machines() {
+    let mut counters = Counters::default();
+    for size in exhaustive::ALL_QUICK {
+        let machines = exhaustive::all(size, Mutant::None, &mut counters);
+        machines.unwrap_or_else(|failure| panic!("{}", failure.cut_down()));
+    }
+    for size in exhaustive::RUN_QUICK {
+        let reached = exhaustive::run_on(size, 1_000_000, Mutant::None, &mut counters);
+        let reached = reached.unwrap_or_else(|failure| panic!("{}", failure.cut_down()));
+        assert!(reached.whole);
+    }
+}
+
+#[test]
+fn finder_questions() {
+    let mut counters = Counters::default();
+    none(exhaustive::finder(Mutant::None, &mut counters));
+    assert!(counters.found > 0 && counters.found_none > 0);
+    assert!(counters.answers[3][7] > 0 && counters.answers[3][8] > 0);
+}

@@ -1,0 +1,123 @@
+//! The check of demand 3 passes K5's last event and fails each part when that part is spoiled.
+
+use binding::{Event, Tables};
+use compare::demand3::{check, Before};
+
+fn event(kind: u32, who: u32, a: u32, b: u32, mask: u64) -> Event {
+    Event {
+        kind,
+        who,
+        a,
+        b,
+        mask,
+    }
+}
+
+const WAKE_3: Event = Event {
+    kind: 3,
+    who: 3,
+    a: 0,
+    b: 0,
+    mask: 0,
+};
+
+/// K5 up to the wake of task 3, what was before it, and the tables after.
+fn k5() -> (Before, Tables) {
+    let mut t = Tables::fresh(3).expect("3 CPUs");
+    for (who, prio, mask) in [(0, 30, 3), (1, 20, 6), (2, 10, 4), (3, 40, 1)] {
+        assert_eq!(t.event(event(1, who, 1, prio, mask)).answer, 0);
+    }
+    for who in 0..3 {
+        assert_eq!(t.event(event(3, who, 0, 0, 0)).answer, 0);
+    }
+    let before = Before::of(&t);
+    assert_eq!(t.event(WAKE_3).moves, 2);
+    (before, t)
+}
+
+/// What the check says of K5's tables after `spoil`.
+fn says(moves: u32, spoil: impl FnOnce(&mut Tables)) -> String {
+    let (before, mut t) = k5();
+    spoil(&mut t);
+    check(&before, WAKE_3, moves, &t).expect_err("spoiled")
+}
+
+#[test]
+fn k5_passes() {
+    let (before, t) = k5();
+    assert_eq!(check(&before, WAKE_3, 2, &t), Ok(()));
+}
+
+#[test]
+fn as_many_migrations_as_cpus() {
+    assert!(says(3, |_| ()).contains("3 migrations"));
+}
+
+#[test]
+fn a_count_that_is_not_the_log() {
+    assert!(says(1, |_| ()).contains("without a log entry"));
+    let wrong_to = says(2, |t| t.log[5] = 0);
+    assert!(wrong_to.contains("not where the log says it went"));
+    let wrong_from = says(2, |t| t.log[4] = 0);
+    assert!(wrong_from.contains("not where the log says it waited"));
+    assert!(says(2, |t| t.log[3] = 65535).contains("no move"));
+}
+
+#[test]
+fn a_cpu_that_receives_two() {
+    let twice = says(2, |t| {
+        t.log[2] = 2;
+        t.cpu[0] = 2;
+    });
+    assert!(twice.contains("receives two tasks: CPU 2"));
+}
+
+#[test]
+fn a_task_that_moves_twice() {
+    // Task 3 is the event's own, so where it waited is not known: only the double entry is wrong.
+    let (before, mut t) = k5();
+    t.log[..6].copy_from_slice(&[3, 1, 0, 3, 0, 2]);
+    t.cpu[0] = 0;
+    t.cpu[1] = 1;
+    let said = check(&before, WAKE_3, 2, &t).expect_err("spoiled");
+    assert!(said.contains("moves twice: task 3"), "{said}");
+}
+
+#[test]
+fn a_priority_that_rises() {
+    assert!(says(2, |t| t.prio[1] = 31).contains("rises after log entry 0"));
+}
+
+#[test]
+fn a_waiter_that_outranks() {
+    let lower = says(2, |t| {
+        t.mask[2] = 5;
+        t.prio[3] = 9;
+    });
+    assert_eq!(lower, "task 2 waits and outranks what runs on CPU 0");
+    let empty = says(2, |t| {
+        t.mask[2] = 5;
+        t.state[3] = 1;
+        t.counts[0] = 0;
+    });
+    assert_eq!(empty, "task 2 waits and outranks what runs on CPU 0");
+}
+
+#[test]
+fn an_equal_does_not_outrank() {
+    let (before, mut t) = k5();
+    t.mask[2] = 5;
+    t.prio[3] = 10;
+    assert_eq!(check(&before, WAKE_3, 2, &t), Ok(()));
+}
+
+#[test]
+fn a_task_in_no_row_or_in_two() {
+    assert!(says(2, |t| t.counts[0] = 0).contains("task 3 stands 0 times"));
+    let twice = says(2, |t| {
+        t.rows[1] = 2;
+        t.counts[0] = 2;
+    });
+    assert!(twice.contains("task 2 stands 2 times"));
+    assert!(says(2, |t| t.state[2] = 1).contains("task 2 stands 1 times"));
+}

@@ -1,0 +1,277 @@
+/* SPDX-License-Identifier: MIT */
+/*
+ * Document 01's marked examples K1 to K12 through include/qoriwesh.h, as C and as C++. Each line of an
+ * example is an event with what it must answer; what the example says of rows, levels, log and columns is
+ * compared after it. Prints the number of examples and exits 0, or says what differs and exits 1.
+ */
+#include <stdio.h>
+#include <string.h>
+#include "qoriwesh.h"
+
+static struct qoriwesh_machine m;
+static const char *example = "";
+static int wrong;
+
+static void same(const char *what, long got, long want)
+{
+	if (got == want)
+		return;
+	printf("%s: %s is %ld, and must be %ld\n", example, what, got, want);
+	wrong = 1;
+}
+
+static void begin(const char *name)
+{
+	example = name;
+}
+
+static void fresh(const char *name, size_t cpus)
+{
+	begin(name);
+	memset(&m, 0x5a, sizeof(m));
+	same("the fresh machine's answer", qoriwesh_machine_init(&m, cpus), 0);
+	same("the fresh machine's check", qoriwesh_machine_check(&m), 0);
+}
+
+/* The moves of an accepted event, or a refusal's number, negative; a refused one changes nothing. */
+static void event(uint32_t kind, uint32_t who, uint32_t a, uint32_t b, uint64_t mask, int want)
+{
+	static struct qoriwesh_machine before;
+
+	memcpy(&before, &m, sizeof(m));
+	same("the event's answer", qoriwesh_machine_event(&m, kind, who, a, b, mask), want);
+	if (want < 0)
+		same("what a refused event changed", memcmp(&before, &m, sizeof(m)) != 0, 0);
+	else
+		same("the check after the event", qoriwesh_machine_check(&m), 0);
+}
+
+static void add(uint32_t task, uint32_t prio, uint64_t mask)
+{
+	event(QORIWESH_ADD, task, QORIWESH_FIFO, prio, mask, 0);
+}
+
+static void wake(uint32_t task, int moves)
+{
+	event(QORIWESH_WAKE, task, 0, 0, 0, moves);
+}
+
+/* A CPU's row: `count` tasks in run order, and 65535 behind them. */
+static void row(size_t cpu, size_t count, const uint16_t *tasks)
+{
+	size_t i;
+
+	same("a row's count", m.counts[cpu], (long)count);
+	for (i = 0; i < QORIWESH_TASKS; i++)
+		same("a place of a row", m.rows[QORIWESH_TASKS * cpu + i], i < count ? tasks[i] : QORIWESH_NOTHING);
+}
+
+static void row1(size_t cpu, uint16_t first)
+{
+	row(cpu, 1, &first);
+}
+
+static void row2(size_t cpu, uint16_t first, uint16_t second)
+{
+	uint16_t tasks[2];
+
+	tasks[0] = first;
+	tasks[1] = second;
+	row(cpu, 2, tasks);
+}
+
+static void level(size_t cpu, int want)
+{
+	same("a level", m.levels[cpu], want);
+}
+
+static void logged(size_t i, int task, int from, int to)
+{
+	same("the task in the log", m.log[3 * i], task);
+	same("the CPU it waited on", m.log[3 * i + 1], from);
+	same("the CPU it went to", m.log[3 * i + 2], to);
+}
+
+static void k1(void)
+{
+	fresh("K1", 1);
+	add(0, 50, 1);
+	wake(0, 0);
+	row1(0, 0);
+	level(0, 52);
+}
+
+static void k2(const char *name)
+{
+	fresh(name, 2);
+	add(0, 50, 3);
+	add(1, 40, 3);
+	wake(1, 0);
+	wake(0, 1);
+	logged(0, 1, 0, 1);
+	row1(0, 0);
+	row1(1, 1);
+	level(0, 52);
+	level(1, 42);
+}
+
+static void k3_k4(void)
+{
+	k2("K3");
+	add(2, 40, 3);
+	wake(2, 0);
+	row2(0, 0, 2);
+	row1(1, 1);
+	begin("K4");
+	event(QORIWESH_SLEEP, 0, 0, 0, 0, 0);
+	row1(0, 2);
+	row1(1, 1);
+}
+
+static void k5_k6(void)
+{
+	fresh("K5", 3);
+	add(0, 30, 3);
+	add(1, 20, 6);
+	add(2, 10, 4);
+	add(3, 40, 1);
+	wake(0, 0);
+	wake(1, 0);
+	wake(2, 0);
+	row1(0, 0);
+	row1(1, 1);
+	row1(2, 2);
+	wake(3, 2);
+	logged(0, 0, 0, 1);
+	logged(1, 1, 1, 2);
+	row1(0, 3);
+	row1(1, 0);
+	row2(2, 1, 2);
+	level(0, 42);
+	level(1, 32);
+	level(2, 22);
+	same("task 0's CPU", m.cpu[0], 1);
+	same("task 1's CPU", m.cpu[1], 2);
+	same("task 2's CPU", m.cpu[2], 2);
+	same("task 3's CPU", m.cpu[3], 0);
+	begin("K6");
+	event(QORIWESH_SLEEP, 3, 0, 0, 0, 0);
+	row(0, 0, NULL);
+	level(0, QORIWESH_LEVEL_IDLE);
+	row2(2, 1, 2);
+}
+
+static void k7_k8(void)
+{
+	fresh("K7", 2);
+	add(0, 60, 1);
+	add(1, 50, 1);
+	add(2, 40, 3);
+	wake(0, 0);
+	wake(1, 0);
+	wake(2, 1);
+	logged(0, 2, 0, 1);
+	row2(0, 0, 1);
+	row1(1, 2);
+	k2("K8");
+	event(QORIWESH_AFFINITY, 0, 0, 0, 2, 1);
+	logged(0, 1, 1, 0);
+	row1(0, 1);
+	row1(1, 0);
+}
+
+static void k9(void)
+{
+	int i;
+
+	fresh("K9", 1);
+	event(QORIWESH_ADD, 0, QORIWESH_RR, 20, 1, 0);
+	event(QORIWESH_ADD, 1, QORIWESH_RR, 20, 1, 0);
+	wake(0, 0);
+	wake(1, 0);
+	for (i = 0; i < 99; i++)
+		event(QORIWESH_TICK, 0, 0, 0, 0, 0);
+	row2(0, 0, 1);
+	same("the slice before the last tick", m.slice[0], 1);
+	event(QORIWESH_TICK, 0, 0, 0, 0, 0);
+	row2(0, 1, 0);
+	same("the slice after it", m.slice[0], QORIWESH_SLICE);
+}
+
+static void k10_k11(void)
+{
+	fresh("K10", 3);
+	event(QORIWESH_ORDINARY, 1, 0, 1, 0, 0);
+	add(0, 50, 7);
+	add(1, 40, 7);
+	wake(0, 0);
+	wake(1, 1);
+	row1(2, 1);
+	level(1, QORIWESH_LEVEL_ORDINARY);
+	fresh("K11", 1);
+	add(0, 50, 1);
+	add(1, 30, 1);
+	wake(0, 0);
+	wake(1, 0);
+	event(QORIWESH_PRIORITY, 0, 0, 30, 0, 0);
+	row2(0, 1, 0);
+}
+
+static void k12(void)
+{
+	begin("K12");
+	same("N 0", qoriwesh_machine_init(&m, 0), -QORIWESH_ESIZE);
+	same("N 65", qoriwesh_machine_init(&m, 65), -QORIWESH_ESIZE);
+	fresh("K12", 2);
+	event(QORIWESH_ADD, 512, QORIWESH_FIFO, 50, 1, -QORIWESH_ENUMBER);
+	add(0, 50, 1);
+	wake(0, 0);
+	wake(0, -QORIWESH_ESTATE);
+	event(QORIWESH_PRIORITY, 0, 0, 0, 0, -QORIWESH_EVALUE);
+	event(QORIWESH_PRIORITY, 0, 0, 100, 0, -QORIWESH_EVALUE);
+	event(QORIWESH_AFFINITY, 0, 0, 0, 0, -QORIWESH_EMASK);
+	event(QORIWESH_AFFINITY, 0, 0, 0, 4, -QORIWESH_EMASK);
+	event(QORIWESH_YIELD, 1, 0, 0, 0, -QORIWESH_EEMPTY);
+	fresh("K12", 64);
+	add(511, 1, 1);
+	event(QORIWESH_PRIORITY, 511, 0, 99, 0, 0);
+	wake(511, 0);
+	level(0, QORIWESH_LEVEL_PRIO(99));
+}
+
+/* The finder, and what the other examples do not reach: kinds, policies, lengths, damage. */
+static void others(void)
+{
+	uint8_t found_level;
+	uint64_t found_mask;
+
+	k2("find");
+	same("its answer", qoriwesh_machine_find(&m, QORIWESH_LEVEL_PRIO(50), 3, &found_level, &found_mask), 0);
+	same("the level", found_level, 42);
+	same("the CPUs", (long)found_mask, 2);
+	same("its answer", qoriwesh_machine_find(&m, 42, 3, &found_level, &found_mask), 0);
+	same("no level", found_level, QORIWESH_LEVEL_INVALID);
+	same("its refusal", qoriwesh_machine_find(&m, 102, 3, &found_level, &found_mask), -QORIWESH_EVALUE);
+	begin("refusals");
+	event(10, 0, 0, 0, 0, -QORIWESH_EKIND);
+	event(QORIWESH_ADD, 5, 3, 50, 1, -QORIWESH_EPOLICY);
+	m.levels[63] = 0;
+	same("a damaged record", qoriwesh_machine_check(&m), -QORIWESH_EFORM);
+	event(QORIWESH_WAKE, 0, 0, 0, 0, -QORIWESH_EFORM);
+}
+
+int main(void)
+{
+	k1();
+	k2("K2");
+	k3_k4();
+	k5_k6();
+	k7_k8();
+	k9();
+	k10_k11();
+	k12();
+	others();
+	if (!wrong)
+		printf("K1 to K12, the finder and the refusals are as document 01 says\n");
+	return wrong;
+}
