@@ -6,11 +6,11 @@ use crate::ours::Ours;
 use crate::say::say;
 use crate::second::Second;
 use crate::side::{Side, Work};
-use crate::table::{ns, ratio, Table};
-use crate::timing::{time, Effort};
+use crate::table::{ns, ratio, to_plain, Table};
+use crate::timing::Run;
 use binding::Tables;
 
-pub fn find(effort: Effort) {
+pub fn find(run: &mut Run) {
     say("Finder, ns a question\n");
     let head = [
         "N",
@@ -29,13 +29,16 @@ pub fn find(effort: Effort) {
             ("none", busy(n), 100, 1),
         ];
         for (name, start, level, mask) in questions {
-            let t = ask(&start, level, mask, effort);
+            let times = 100;
+            let work = Work::Find { times, level, mask };
+            let row = run.row(format!("find {n} {name}"), &mut sides(&start), &work);
+            let t = &row.times;
             table.row(vec![
                 n.to_string(),
                 name.to_string(),
                 ns(t[0]),
                 ns(t[1]),
-                ratio(t[0], t[1]),
+                to_plain(&row),
                 ns(t[2]),
                 ratio(t[2], t[0]),
             ]);
@@ -44,13 +47,10 @@ pub fn find(effort: Effort) {
     table.print();
 }
 
-/// The time of one question, for each version.
-fn ask(start: &Tables, level: u32, mask: u64, effort: Effort) -> Vec<f64> {
-    let mut sides: Vec<Box<dyn Side>> = vec![
+fn sides(start: &Tables) -> Vec<Box<dyn Side>> {
+    vec![
         Box::new(Ours::new(start)),
         Box::new(ByHand::new(start, Shape::Natural)),
         Box::new(Second::new(start)),
-    ];
-    let times = 100;
-    time(&mut sides, &Work::Find { times, level, mask }, effort)
+    ]
 }

@@ -1,13 +1,14 @@
 //! Check, event and inner event over machines of several sizes, and how their cost grows.
 
 use crate::by_hand::{ByHand, Shape};
+use crate::keep::Row;
 use crate::machines::{mixed, Scene};
 use crate::ours::Ours;
 use crate::say::say;
 use crate::second::Second;
 use crate::side::{Side, Work};
-use crate::table::{ns, ratio, Table};
-use crate::timing::{time, Effort};
+use crate::table::{ns, ratio, to_plain, Table};
+use crate::timing::Run;
 use binding::{CPUS, LEVELS, TASKS, WORDS};
 
 const SIZES: [usize; 4] = [1, 4, 16, 64];
@@ -22,23 +23,25 @@ pub fn has((n, tasks): (usize, usize)) -> bool {
 struct Point {
     n: usize,
     tasks: usize,
-    times: Vec<f64>,
+    row: Row,
 }
 
 fn measure(
-    effort: Effort,
+    run: &mut Run,
+    section: &str,
     sides: fn(&Scene) -> Vec<Box<dyn Side>>,
     work: fn(&Scene) -> Work,
 ) -> Vec<Point> {
     let mut points = Vec::new();
     for n in SIZES {
         for tasks in LOADS {
-            if effort.only.is_some_and(|only| only != (n, tasks)) {
+            if run.effort.only.is_some_and(|only| only != (n, tasks)) {
                 continue;
             }
             let scene = mixed(n, tasks);
-            let times = time(&mut sides(&scene), &work(&scene), effort);
-            points.push(Point { n, tasks, times });
+            let key = format!("{section} {n} {tasks}");
+            let row = run.row(key, &mut sides(&scene), &work(&scene));
+            points.push(Point { n, tasks, row });
         }
     }
     points
@@ -77,9 +80,9 @@ fn bytes(n: usize) -> usize {
     column_bytes + row_bytes + record_bytes
 }
 
-pub fn check(effort: Effort) {
+pub fn check(run: &mut Run) {
     say("Check of all tables, ns a call\n");
-    let points = measure(effort, four, |_| Work::Check(4));
+    let points = measure(run, "check", four, |_| Work::Check(4));
     let head = [
         "N",
         "tasks",
@@ -97,19 +100,21 @@ pub fn check(effort: Effort) {
     for p in &points {
         let read = bytes(p.n);
         let mut cells = against_second(p);
-        cells.push(ns(p.times[3]));
-        cells.push(ratio(p.times[0], p.times[3]));
+        cells.push(ns(p.row.times[3]));
+        cells.push(ratio(p.row.times[0], p.row.times[3]));
         cells.push(read.to_string());
-        cells.push(format!("{:.2}", read as f64 / p.times[0]));
+        cells.push(format!("{:.2}", read as f64 / p.row.times[0]));
         table.row(cells);
     }
     table.print();
     growth(&points);
 }
 
-pub fn event(effort: Effort) {
+pub fn event(run: &mut Run) {
     say("Event with its check of all tables, a mix of events, ns an event\n");
-    let points = measure(effort, three, |scene| Work::Events(scene.events.clone()));
+    let points = measure(run, "event", three, |scene| {
+        Work::Events(scene.events.clone())
+    });
     let head = [
         "N",
         "tasks",
@@ -128,21 +133,23 @@ pub fn event(effort: Effort) {
 }
 
 fn against_second(p: &Point) -> Vec<String> {
-    let (ours, plain, second) = (p.times[0], p.times[1], p.times[2]);
+    let (ours, plain, second) = (p.row.times[0], p.row.times[1], p.row.times[2]);
     vec![
         p.n.to_string(),
         p.tasks.to_string(),
         ns(ours),
         ns(plain),
-        ratio(ours, plain),
+        to_plain(&p.row),
         ns(second),
         ratio(second, ours),
     ]
 }
 
-pub fn inner(effort: Effort) {
+pub fn inner(run: &mut Run) {
     say("Inner event (tables not checked), the same mix, ns an event\n");
-    let points = measure(effort, shapes, |scene| Work::Inner(scene.events.clone()));
+    let points = measure(run, "inner", shapes, |scene| {
+        Work::Inner(scene.events.clone())
+    });
     let head = [
         "N",
         "tasks",
@@ -155,19 +162,20 @@ pub fn inner(effort: Effort) {
     let mut table = Table::new(&head);
     for p in &points {
         let mut cells = vec![p.n.to_string(), p.tasks.to_string()];
-        cells.extend(shape_cells(&p.times));
+        cells.extend(shape_cells(&p.row));
         table.row(cells);
     }
     table.print();
     growth(&points);
 }
 
-/// Times of `shapes`.
-pub fn shape_cells(times: &[f64]) -> Vec<String> {
+/// The times of `shapes`.
+pub fn shape_cells(row: &Row) -> Vec<String> {
+    let times = &row.times;
     vec![
         ns(times[0]),
         ns(times[1]),
-        ratio(times[0], times[1]),
+        to_plain(row),
         ns(times[2]),
         ratio(times[0], times[2]),
     ]
@@ -180,7 +188,7 @@ fn growth(points: &[Point]) {
     }
     let at = |n, tasks, side: usize| {
         let point = points.iter().find(|p| p.n == n && p.tasks == tasks);
-        point.map_or(f64::NAN, |p| p.times[side])
+        point.map_or(f64::NAN, |p| p.row.times[side])
     };
     let (few, many) = (LOADS[0], LOADS[2]);
     for (side, name) in ["library", "plain"].iter().enumerate() {

@@ -4,6 +4,7 @@ mod by_hand;
 mod finder;
 mod grid;
 mod inner;
+mod keep;
 mod machines;
 mod ours;
 mod rng;
@@ -14,13 +15,16 @@ mod table;
 mod timing;
 mod worst;
 
+use keep::Keep;
 use say::say;
 use std::env;
+use std::io;
+use std::path::PathBuf;
 use std::process::ExitCode;
-use timing::Effort;
+use timing::{Effort, Run};
 
 const HELP: &str = "\
-bench [--quick | --once] [--only N,TASKS] [SECTION...]
+bench [--quick | --once] [--only N,TASKS] [--keep FILE] [SECTION...]
 
 Times the proved library against the same scheduler in plain Rust and against
 the second scheduler, and prints tables with the time of one call and ratios.
@@ -38,9 +42,13 @@ Sections, all if none is named:
   --quick         a few seconds, and less exact
   --once          each row once, for a tool that counts instructions
   --only N,TASKS  of check, event and inner the one row
+  --keep FILE     show the shortest times of this run and of all earlier ones with
+                  this file, and the ratios that single runs had. Each should be
+                  a build with another BENCH_SEED: where the linker puts a short
+                  loop changes its time
   --help          this text";
 
-type Section = (&'static str, fn(Effort));
+type Section = (&'static str, fn(&mut Run));
 
 const SECTIONS: [Section; 5] = [
     ("check", grid::check),
@@ -55,6 +63,7 @@ const SECTIONS: [Section; 5] = [
 struct Command {
     help: bool,
     effort: Effort,
+    keep: Option<PathBuf>,
     sections: Vec<Section>,
 }
 
@@ -64,6 +73,7 @@ fn command(args: impl Iterator<Item = String>) -> Result<Command, String> {
     let mut asked = Command {
         help: false,
         effort: Effort::FULL,
+        keep: None,
         sections: Vec::new(),
     };
     while let Some(arg) = args.next() {
@@ -72,6 +82,7 @@ fn command(args: impl Iterator<Item = String>) -> Result<Command, String> {
             "--quick" => asked.effort = Effort::QUICK,
             "--once" => asked.effort = Effort::ONCE,
             "--only" => only = Some(size(args.next())?),
+            "--keep" => asked.keep = Some(args.next().ok_or("--keep: which file?")?.into()),
             name => asked.sections.push(section(name)?),
         }
     }
@@ -98,14 +109,28 @@ fn size(word: Option<String>) -> Result<(usize, usize), String> {
         .ok_or_else(|| format!("--only: no row '{word}'"))
 }
 
-fn main() -> ExitCode {
-    match command(env::args().skip(1)) {
-        Ok(asked) if asked.help => say(HELP),
-        Ok(asked) => asked.sections.iter().for_each(|(_, run)| run(asked.effort)),
-        Err(message) => {
-            eprintln!("bench: {message}; 'bench --help' says more");
-            return ExitCode::from(2);
-        }
+fn run(asked: Command) -> io::Result<()> {
+    if asked.help {
+        say(HELP);
+        return Ok(());
     }
-    ExitCode::SUCCESS
+    let mut run = Run {
+        effort: asked.effort,
+        keep: Keep::open(asked.keep)?,
+    };
+    for (_, section) in asked.sections {
+        section(&mut run);
+    }
+    run.keep.save()
+}
+
+fn main() -> ExitCode {
+    let ended = command(env::args().skip(1)).map(run);
+    let message = match ended {
+        Ok(Ok(())) => return ExitCode::SUCCESS,
+        Ok(Err(error)) => format!("--keep: {error}"),
+        Err(message) => format!("{message}; 'bench --help' says more"),
+    };
+    eprintln!("bench: {message}");
+    ExitCode::from(2)
 }

@@ -1,5 +1,6 @@
 //! A table of text, as in a Markdown page.
 
+use crate::keep::Row;
 use crate::say::say;
 
 pub struct Table {
@@ -60,5 +61,14 @@ pub fn ratio(of: f64, to: f64) -> String {
     match of / to {
         r if r < 10.0 => format!("{r:.2}"),
         r => format!("{r:.0}"),
+    }
+}
+
+/// Library/plain, and what single runs showed if there were several.
+pub fn to_plain(row: &Row) -> String {
+    let best = ratio(row.times[0], row.times[1]);
+    match row.least < row.most {
+        true => format!("{best} ({:.2}..{:.2})", row.least, row.most),
+        false => best,
     }
 }

@@ -1,6 +1,7 @@
 //! Times the compared versions in turn, round after round, so that what else the computer does meets all of
 //! them. The shortest time counts.
 
+use crate::keep::{Keep, Row};
 use crate::side::{Side, Work};
 use std::time::{Duration, Instant};
 
@@ -31,6 +32,20 @@ impl Effort {
     };
 }
 
+/// A run of the benchmark.
+pub struct Run {
+    pub effort: Effort,
+    pub keep: Keep,
+}
+
+impl Run {
+    /// Times one row. The key names it among all rows.
+    pub fn row(&mut self, key: String, sides: &mut [Box<dyn Side>], work: &Work) -> Row {
+        let times = time(sides, work, self.effort);
+        self.keep.row(key, Row::new(times))
+    }
+}
+
 /// After a side has used this part of a row's time, the others go on without it.
 const SHARE: u32 = 3;
 const FEWEST_ROUNDS: usize = 3;
@@ -45,7 +60,7 @@ struct Watch {
 ///
 /// # Panics
 /// If two sides differ in their answers or in the tables that they leave.
-pub fn time(sides: &mut [Box<dyn Side>], work: &Work, effort: Effort) -> Vec<f64> {
+fn time(sides: &mut [Box<dyn Side>], work: &Work, effort: Effort) -> Vec<f64> {
     same(sides, work);
     let parts = work.parts();
     let fresh = || Watch {

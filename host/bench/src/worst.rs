@@ -5,9 +5,9 @@ use crate::machines::{chain, full_row, yields, Scene};
 use crate::say::say;
 use crate::side::Work;
 use crate::table::Table;
-use crate::timing::{time, Effort};
+use crate::timing::Run;
 
-pub fn worst(effort: Effort) {
+pub fn worst(run: &mut Run) {
     say("Inner event, worst cases, ns an event\n");
     let head = [
         "case",
@@ -27,9 +27,9 @@ pub fn worst(effort: Effort) {
     ];
     for (name, scene) in cases {
         let work = Work::Inner(scene.events.clone());
-        let times = time(&mut shapes(&scene), &work, effort);
+        let row = run.row(format!("worst {name}"), &mut shapes(&scene), &work);
         let mut cells = vec![name.to_string()];
-        cells.extend(shape_cells(&times));
+        cells.extend(shape_cells(&row));
         table.row(cells);
     }
     table.print();
