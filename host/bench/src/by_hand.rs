@@ -15,12 +15,12 @@ pub struct ByHand {
 /// How the plain version is written.
 #[derive(Clone, Copy, PartialEq, Eq)]
 pub enum Shape {
-    /// As one would write it first.
+    /// As one would write it.
     Natural,
     /// The inner event has the record in and back by value.
     ByValue,
-    /// The check looks at unused places many at a time.
-    Wide,
+    /// The check looks at unused places one by one.
+    OneByOne,
 }
 
 impl ByHand {
@@ -37,7 +37,7 @@ impl ByHand {
 
     fn check(&self) -> u8 {
         match self.shape {
-            Shape::Wide => plain::check_wide(&self.tables, &self.record),
+            Shape::OneByOne => plain::check_one_by_one(&self.tables, &self.record),
             _ => plain::check(&self.tables, &self.record),
         }
     }

@@ -56,10 +56,10 @@ fn three(scene: &Scene) -> Vec<Box<dyn Side>> {
     ]
 }
 
-/// Those, and the plain version with the wide check.
+/// Those, and the plain version with the check that looks at unused places one by one.
 fn four(scene: &Scene) -> Vec<Box<dyn Side>> {
     let mut sides = three(scene);
-    sides.push(Box::new(ByHand::new(&scene.start, Shape::Wide)));
+    sides.push(Box::new(ByHand::new(&scene.start, Shape::OneByOne)));
     sides
 }
 
@@ -91,7 +91,7 @@ pub fn check(run: &mut Run) {
         "library/plain",
         "second",
         "second/library",
-        "plain, wide",
+        "plain, one by one",
         "library/it",
         "bytes",
         "bytes/ns",

@@ -8,17 +8,18 @@ use crate::tables::{Tables, ASLEEP, FREE, FULL_SLICE, NOTHING, RUNNABLE, TASKS};
 /// Which tasks stand in rows, 64 to a word.
 type Placed = [u64; TASKS / 64];
 
-/// 0, 1 or 2.
+/// 0, 1 or 2. It looks at all unused places of a row before it decides, which the compiler makes many at a time:
+/// 65535 has every bit.
 pub fn check(t: &Tables, record: &Record) -> u8 {
     checked(t, record, |unused| {
-        unused.iter().all(|&place| place == NOTHING)
+        unused.iter().fold(NOTHING, |all, &place| all & place) == NOTHING
     })
 }
 
-/// As `check`, looking at all unused places of a row before it decides, many at a time: 65535 has every bit.
-pub fn check_wide(t: &Tables, record: &Record) -> u8 {
+/// As `check`, one unused place after another up to the first wrong one.
+pub fn check_one_by_one(t: &Tables, record: &Record) -> u8 {
     checked(t, record, |unused| {
-        unused.iter().fold(NOTHING, |all, &place| all & place) == NOTHING
+        unused.iter().all(|&place| place == NOTHING)
     })
 }
 

@@ -16,7 +16,7 @@ pub mod row;
 pub mod settle;
 pub mod tables;
 
-pub use check::{check, check_wide};
+pub use check::{check, check_one_by_one};
 pub use event::{event, handle, handle_by_value, Event, Outcome};
 pub use find::{find, Found};
 pub use record::Record;

@@ -62,7 +62,7 @@ impl Pair {
         match call {
             Call::MakeFresh => vec![t.make_fresh(record).into()],
             Call::Check => {
-                assert_eq!(plain::check_wide(t, record), plain::check(t, record));
+                assert_eq!(plain::check_one_by_one(t, record), plain::check(t, record));
                 vec![plain::check(t, record).into()]
             }
             Call::Event(e) => {
