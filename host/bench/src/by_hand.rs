@@ -1,0 +1,152 @@
+//! The plain version.
+
+use crate::side::{found, outcome, sum, Side, Work};
+use binding::{Event, Tables};
+use plain::Record;
+use std::hint::black_box;
+
+pub struct ByHand {
+    start: (plain::Tables, Record),
+    tables: plain::Tables,
+    record: Record,
+    shape: Shape,
+}
+
+/// How the plain version is written.
+#[derive(Clone, Copy, PartialEq, Eq)]
+pub enum Shape {
+    /// As one would write it.
+    Natural,
+    /// The inner event has the record in and back by value.
+    ByValue,
+    /// The check looks at unused places one by one.
+    OneByOne,
+}
+
+impl ByHand {
+    pub fn new(start: &Tables, shape: Shape) -> ByHand {
+        let start = (tables(start), record(start));
+        let (tables, record) = start.clone();
+        ByHand {
+            start,
+            tables,
+            record,
+            shape,
+        }
+    }
+
+    fn check(&self) -> u8 {
+        match self.shape {
+            Shape::OneByOne => plain::check_one_by_one(&self.tables, &self.record),
+            _ => plain::check(&self.tables, &self.record),
+        }
+    }
+
+    fn inner(&mut self, e: &plain::Event) -> plain::Outcome {
+        if self.shape != Shape::ByValue {
+            return plain::handle(&mut self.tables, &mut self.record, e);
+        }
+        let record = self.record.clone();
+        let (outcome, record) = plain::handle_by_value(&mut self.tables, record, e);
+        self.record = record;
+        outcome
+    }
+}
+
+impl Side for ByHand {
+    fn restart(&mut self) {
+        copy(&self.start.0, &mut self.tables);
+        self.record = self.start.1.clone();
+    }
+
+    fn run(&mut self, work: &Work) -> u64 {
+        match work {
+            Work::Check(times) => sum((0..*times).map(|_| black_box(&*self).check().into())),
+            Work::Events(events) => sum(events.iter().map(|e| {
+                let o = plain::event(&mut self.tables, &mut self.record, &event(e));
+                outcome(o.answer, o.moves)
+            })),
+            Work::Inner(events) => sum(events.iter().map(|e| {
+                let o = self.inner(&event(e));
+                outcome(o.answer, o.moves)
+            })),
+            Work::Find { times, level, mask } => sum((0..*times).map(|_| {
+                let side = black_box(&*self);
+                let f = plain::find(side.tables.n, &side.record, *level, *mask);
+                found(f.answer, f.level, f.mask)
+            })),
+        }
+    }
+
+    fn tables(&self) -> Tables {
+        let (t, r) = (self.tables.clone(), &self.record);
+        Tables {
+            n: t.n,
+            state: t.state,
+            policy: t.policy,
+            prio: t.prio,
+            cpu: t.cpu,
+            slice: t.slice,
+            mask: t.mask,
+            rows: t.rows,
+            counts: t.counts,
+            flags: t.flags,
+            log: t.log,
+            level_masks: r.masks.to_vec(),
+            level_counts: r.counts.to_vec(),
+            level_words: r.words.to_vec(),
+            levels: r.levels.to_vec(),
+        }
+    }
+}
+
+fn event(e: &Event) -> plain::Event {
+    plain::Event {
+        kind: e.kind,
+        who: e.who,
+        a: e.a,
+        b: e.b,
+        mask: e.mask,
+    }
+}
+
+fn record(t: &Tables) -> Record {
+    let right = "a record's lengths";
+    Record {
+        masks: t.level_masks[..].try_into().expect(right),
+        counts: t.level_counts[..].try_into().expect(right),
+        words: t.level_words[..].try_into().expect(right),
+        levels: t.levels[..].try_into().expect(right),
+    }
+}
+
+fn tables(t: &Tables) -> plain::Tables {
+    let t = t.clone();
+    plain::Tables {
+        n: t.n,
+        state: t.state,
+        policy: t.policy,
+        prio: t.prio,
+        cpu: t.cpu,
+        slice: t.slice,
+        mask: t.mask,
+        rows: t.rows,
+        counts: t.counts,
+        flags: t.flags,
+        log: t.log,
+    }
+}
+
+/// Copies every table in place.
+fn copy(from: &plain::Tables, to: &mut plain::Tables) {
+    to.state.copy_from_slice(&from.state);
+    to.policy.copy_from_slice(&from.policy);
+    to.prio.copy_from_slice(&from.prio);
+    to.cpu.copy_from_slice(&from.cpu);
+    to.slice.copy_from_slice(&from.slice);
+    to.mask.copy_from_slice(&from.mask);
+    to.rows.copy_from_slice(&from.rows);
+    to.counts.copy_from_slice(&from.counts);
+    to.flags.copy_from_slice(&from.flags);
+    to.log.copy_from_slice(&from.log);
+}

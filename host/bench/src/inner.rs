@@ -1,0 +1,135 @@
+//! The event without its check of the tables, which is no public entry.
+
+use binding::{Event, Outcome, Tables};
+
+extern "C" {
+    fn qoriwesh_inner_event(
+        n: usize,
+        state: *mut u8,
+        state_len: usize,
+        policy: *mut u8,
+        policy_len: usize,
+        prio: *mut u8,
+        prio_len: usize,
+        cpu: *mut u8,
+        cpu_len: usize,
+        slice: *mut u16,
+        slice_len: usize,
+        mask: *mut u64,
+        mask_len: usize,
+        rows: *mut u16,
+        rows_len: usize,
+        counts: *mut u16,
+        counts_len: usize,
+        flags: *mut u8,
+        flags_len: usize,
+        log: *mut u16,
+        log_len: usize,
+        level_masks: *mut u64,
+        level_masks_len: usize,
+        level_counts: *mut u8,
+        level_counts_len: usize,
+        level_words: *mut u64,
+        level_words_len: usize,
+        levels: *mut u8,
+        levels_len: usize,
+        kind: u32,
+        who: u32,
+        a: u32,
+        b: u32,
+        k: u64,
+        moves: *mut u32,
+    ) -> u8;
+}
+
+/// Tables that passed the check. An event leaves them such.
+#[derive(Clone)]
+pub struct Checked(Tables);
+
+impl Checked {
+    /// # Panics
+    /// If the tables do not pass.
+    pub fn new(tables: Tables) -> Checked {
+        assert_eq!(tables.check(), 0, "tables that pass the check");
+        Checked(tables)
+    }
+
+    pub fn tables(&self) -> &Tables {
+        &self.0
+    }
+
+    /// Takes over what the other tables hold. They have the same lengths.
+    pub fn copy_from(&mut self, other: &Checked) {
+        copy(&other.0, &mut self.0);
+    }
+
+    /// The public entry.
+    pub fn checked_event(&mut self, e: Event) -> Outcome {
+        self.0.event(e)
+    }
+
+    pub fn event(&mut self, e: Event) -> Outcome {
+        let t = &mut self.0;
+        let mut moves = 0;
+        // Safety: the tables passed the check; each pointer is a vector's own, with its length, and no two
+        // vectors overlap; `moves` is a local of this function.
+        let answer = unsafe {
+            qoriwesh_inner_event(
+                t.n,
+                t.state.as_mut_ptr(),
+                t.state.len(),
+                t.policy.as_mut_ptr(),
+                t.policy.len(),
+                t.prio.as_mut_ptr(),
+                t.prio.len(),
+                t.cpu.as_mut_ptr(),
+                t.cpu.len(),
+                t.slice.as_mut_ptr(),
+                t.slice.len(),
+                t.mask.as_mut_ptr(),
+                t.mask.len(),
+                t.rows.as_mut_ptr(),
+                t.rows.len(),
+                t.counts.as_mut_ptr(),
+                t.counts.len(),
+                t.flags.as_mut_ptr(),
+                t.flags.len(),
+                t.log.as_mut_ptr(),
+                t.log.len(),
+                t.level_masks.as_mut_ptr(),
+                t.level_masks.len(),
+                t.level_counts.as_mut_ptr(),
+                t.level_counts.len(),
+                t.level_words.as_mut_ptr(),
+                t.level_words.len(),
+                t.levels.as_mut_ptr(),
+                t.levels.len(),
+                e.kind,
+                e.who,
+                e.a,
+                e.b,
+                e.mask,
+                &mut moves,
+            )
+        };
+        Outcome { answer, moves }
+    }
+}
+
+/// Copies every table in place.
+fn copy(from: &Tables, to: &mut Tables) {
+    to.state.copy_from_slice(&from.state);
+    to.policy.copy_from_slice(&from.policy);
+    to.prio.copy_from_slice(&from.prio);
+    to.cpu.copy_from_slice(&from.cpu);
+    to.slice.copy_from_slice(&from.slice);
+    to.mask.copy_from_slice(&from.mask);
+    to.rows.copy_from_slice(&from.rows);
+    to.counts.copy_from_slice(&from.counts);
+    to.flags.copy_from_slice(&from.flags);
+    to.log.copy_from_slice(&from.log);
+    to.level_masks.copy_from_slice(&from.level_masks);
+    to.level_counts.copy_from_slice(&from.level_counts);
+    to.level_words.copy_from_slice(&from.level_words);
+    to.levels.copy_from_slice(&from.levels);
+}

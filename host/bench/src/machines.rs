@@ -1,0 +1,180 @@
+//! The machines that are timed: where they start, and what happens to them.
+
+use crate::rng::Rng;
+use binding::{Event, Tables, TASKS};
+
+const ADD: u32 = 1;
+const WAKE: u32 = 3;
+const SLEEP: u32 = 4;
+const PRIORITY: u32 = 5;
+const AFFINITY: u32 = 6;
+const TICK: u32 = 7;
+const YIELD: u32 = 8;
+const ORDINARY: u32 = 9;
+
+/// How many events of a mix are timed at once.
+const MIXED: usize = 256;
+
+/// Tables to start from, and the events from there on, all of them accepted.
+pub struct Scene {
+    pub start: Tables,
+    pub events: Vec<Event>,
+}
+
+fn event(kind: u32, who: usize) -> Event {
+    Event {
+        kind,
+        who: who as u32,
+        a: 0,
+        b: 0,
+        mask: 0,
+    }
+}
+
+fn full(n: usize) -> u64 {
+    u64::MAX >> (64 - n)
+}
+
+fn accept(t: &mut Tables, e: Event) {
+    let answer = t.event(e).answer;
+    assert_eq!(answer, 0, "{e:?}");
+}
+
+fn fresh(n: usize) -> Tables {
+    Tables::fresh(n).expect("1 to 64 CPUs")
+}
+
+/// Adds a task and wakes it.
+fn put(t: &mut Tables, who: usize, policy: u32, prio: usize, mask: u64) {
+    add(t, who, policy, prio, mask);
+    accept(t, event(WAKE, who));
+}
+
+fn add(t: &mut Tables, who: usize, policy: u32, prio: usize, mask: u64) {
+    let e = Event {
+        a: policy,
+        b: prio as u32,
+        mask,
+        ..event(ADD, who)
+    };
+    accept(t, e);
+}
+
+/// Any CPU, some CPUs, one CPU or two.
+fn some_mask(rng: &mut Rng, n: usize) -> u64 {
+    let one = |rng: &mut Rng| 1u64 << rng.below(n);
+    match rng.below(10) {
+        0..=3 => full(n),
+        4..=6 => (rng.next() & full(n)) | one(rng),
+        7..=8 => one(rng),
+        _ => one(rng) | one(rng),
+    }
+}
+
+/// About six tasks of ten are runnable; half of all are RR.
+pub fn mixed(n: usize, tasks: usize) -> Scene {
+    let mut rng = Rng::new((n * 1000 + tasks) as u64);
+    let mut t = fresh(n);
+    for who in 0..tasks {
+        let (policy, prio) = (1 + rng.below(2) as u32, 1 + rng.below(99));
+        let mask = some_mask(&mut rng, n);
+        add(&mut t, who, policy, prio, mask);
+        if rng.below(10) < 6 {
+            accept(&mut t, event(WAKE, who));
+        }
+    }
+    let start = t.clone();
+    let mut events = Vec::new();
+    while events.len() < MIXED {
+        let e = some_event(&mut rng, &t, tasks);
+        if t.event(e).answer == 0 {
+            events.push(e);
+        }
+    }
+    Scene { start, events }
+}
+
+/// Of ten events three are ticks, four wake a task or put it to sleep, and one each sets a priority and a mask.
+fn some_event(rng: &mut Rng, t: &Tables, tasks: usize) -> Event {
+    let who = rng.below(tasks);
+    let cpu = rng.below(t.n);
+    match rng.below(20) {
+        0..=5 => event(TICK, cpu),
+        6..=13 if t.state[who] == 1 => event(WAKE, who),
+        6..=13 => event(SLEEP, who),
+        14..=15 => Event {
+            b: 1 + rng.below(99) as u32,
+            ..event(PRIORITY, who)
+        },
+        16..=17 => Event {
+            mask: some_mask(rng, t.n),
+            ..event(AFFINITY, who)
+        },
+        18 => event(YIELD, cpu),
+        _ => Event {
+            b: rng.below(2) as u32,
+            ..event(ORDINARY, cpu)
+        },
+    }
+}
+
+/// Task c runs on CPU c and may use the next; priorities fall. One more, the highest, wakes on CPU 0: every
+/// other task moves on by one CPU, 63 moves. With `pinned` each row has 7 more tasks, which can't move.
+pub fn chain(pinned: bool) -> Scene {
+    let mut t = fresh(64);
+    for c in 0..64 {
+        put(&mut t, c, 1, 95 - c, 3 << c);
+    }
+    let mut who = 64;
+    while pinned && who < TASKS - 1 {
+        put(&mut t, who, 1, 30, 1 << (who % 64));
+        who += 1;
+    }
+    add(&mut t, TASKS - 1, 1, 99, 1);
+    let events = vec![event(WAKE, TASKS - 1)];
+    let moves = t.clone().event(events[0]).moves;
+    assert_eq!(moves, 63);
+    Scene { start: t, events }
+}
+
+/// One CPU with 511 equal tasks, and one more that wakes and sleeps, again and again: at the end of the row, or
+/// at its front.
+pub fn full_row(front: bool) -> Scene {
+    let mut t = fresh(1);
+    for who in 0..TASKS - 1 {
+        put(&mut t, who, 1, 50, 1);
+    }
+    let prio = if front { 99 } else { 1 };
+    add(&mut t, TASKS - 1, 1, prio, 1);
+    let pair = [event(WAKE, TASKS - 1), event(SLEEP, TASKS - 1)];
+    Scene {
+        start: t,
+        events: pair.repeat(8),
+    }
+}
+
+/// One CPU with 512 equal tasks, of which the first yields: it goes from the front of the row to its end.
+pub fn yields() -> Scene {
+    let mut t = fresh(1);
+    for who in 0..TASKS {
+        put(&mut t, who, 1, 50, 1);
+    }
+    Scene {
+        start: t,
+        events: vec![event(YIELD, 0); 16],
+    }
+}
+
+/// All n CPUs idle.
+pub fn idle(n: usize) -> Tables {
+    fresh(n)
+}
+
+/// CPU c runs priority 98 - c, so that CPU 0 stands at level 100, the highest that a search can find.
+pub fn busy(n: usize) -> Tables {
+    let mut t = fresh(n);
+    for c in 0..n {
+        put(&mut t, c, 1, 98 - c, 1 << c);
+    }
+    t
+}

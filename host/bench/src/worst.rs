@@ -1,0 +1,36 @@
+//! Inner events that cost the most.
+
+use crate::grid::{shape_cells, shapes};
+use crate::machines::{chain, full_row, yields, Scene};
+use crate::say::say;
+use crate::side::Work;
+use crate::table::Table;
+use crate::timing::Run;
+
+pub fn worst(run: &mut Run) {
+    say("Inner event, worst cases, ns an event\n");
+    let head = [
+        "case",
+        "library",
+        "plain",
+        "library/plain",
+        "plain, record by value",
+        "library/it",
+    ];
+    let mut table = Table::new(&head);
+    let cases: [(&str, Scene); 5] = [
+        ("63 moves on 64 CPUs", chain(false)),
+        ("63 moves, 7 pinned tasks wait in each row", chain(true)),
+        ("wake, sleep: end of a row of 512", full_row(false)),
+        ("wake, sleep: front of a row of 512", full_row(true)),
+        ("yield: front to end of a row of 512", yields()),
+    ];
+    for (name, scene) in cases {
+        let work = Work::Inner(scene.events.clone());
+        let row = run.row(format!("worst {name}"), &mut shapes(&scene), &work);
+        let mut cells = vec![name.to_string()];
+        cells.extend(shape_cells(&row));
+        table.row(cells);
+    }
+    table.print();
+}

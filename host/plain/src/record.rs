@@ -1,0 +1,60 @@
+//! The CPU-priority record: which CPUs run at a level, and at which level a CPU runs.
+
+pub const LEVELS: usize = 102;
+pub const CPUS: usize = 64;
+/// The level of a CPU that is not there.
+pub const INVALID: u8 = 255;
+
+#[derive(Clone, Debug, PartialEq, Eq)]
+pub struct Record {
+    pub masks: [u64; LEVELS],
+    pub counts: [u8; LEVELS],
+    pub words: [u64; 2],
+    pub levels: [u8; CPUS],
+}
+
+/// The level of a CPU that runs a task of this priority.
+pub fn level_of(prio: u8) -> u8 {
+    prio + 2
+}
+
+impl Record {
+    /// All n CPUs idle.
+    pub fn fresh(n: usize) -> Record {
+        let mut record = Record {
+            masks: [0; LEVELS],
+            counts: [0; LEVELS],
+            words: [0; 2],
+            levels: [INVALID; CPUS],
+        };
+        for cpu in 0..n {
+            record.enter(cpu, 0);
+        }
+        record
+    }
+
+    /// Moves a CPU to another level. Mostly it is there already.
+    pub fn set_level(&mut self, cpu: usize, level: u8) {
+        if self.levels[cpu] != level {
+            self.leave(cpu);
+            self.enter(cpu, level);
+        }
+    }
+
+    fn leave(&mut self, cpu: usize) {
+        let level = self.levels[cpu] as usize;
+        self.masks[level] &= !(1 << cpu);
+        self.counts[level] -= 1;
+        if self.counts[level] == 0 {
+            self.words[level / 64] &= !(1 << (level % 64));
+        }
+    }
+
+    fn enter(&mut self, cpu: usize, level: u8) {
+        let l = level as usize;
+        self.masks[l] |= 1 << cpu;
+        self.counts[l] += 1;
+        self.words[l / 64] |= 1 << (l % 64);
+        self.levels[cpu] = level;
+    }
+}
