@@ -20,8 +20,7 @@ pub fn is_consistent(n: usize, r: Record) -> bool
     let levels = r.levels;
     let gathered = gather(n, levels);
     if gathered.fit {
-        let masks = gathered.masks;
-        parts_agree(r, masks)
+        parts_agree(r, &gathered.masks)
     } else {
         false
     }
@@ -75,8 +74,8 @@ fn join(masks: &mut [u64; LEVELS], cpu: usize, level: u8)
 }
 
 // Whether masks, counts and words are what the levels determine; `masks` are the levels' masks.
-fn parts_agree(r: Record, masks: [u64; LEVELS]) -> bool
-    requires { ⌜ masks ≡ masksOf (r .levels) ⌝ }
+fn parts_agree(r: Record, masks: &[u64; LEVELS]) -> bool
+    requires { ⌜ now masks ≡ masksOf (r .levels) ⌝ }
     ensures { λ b. ⌜ b ≡ agrees r ⌝ }
 {
     let mut level = 0;

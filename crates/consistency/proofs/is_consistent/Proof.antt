@@ -10,13 +10,14 @@ gather-requires : tie.Need-gather-requires
 gather-requires c κs = search needs
 
 parts-agree-requires : tie.Need-parts-agree-requires
-parts-agree-requires c κs = c .before .before .gather .ensures .1 (sym (c .before .before .gather .ensures .0) ∙ c .before .if1 .taken)
+parts-agree-requires c κs = c .before .before .before .gather .ensures .1 (sym (c .before .before .before .gather .ensures .0) ∙ c .before .before .if1 .taken)
 
 returns : tie.Need-returns
 unfolding consistent
 returns c =
-    let r = c .before .before .before .before .before .args .r in
-    let fit : levelsFit (c .before .before .before .before .before .args .n) (r .levels) ≡ true = sym (c .before .before .before .gather .ensures .0) ∙ c .before .before .if1 .taken in
+    let a = c .before .before .before .before .before .before .args in
+    let r = a .r in
+    let fit : levelsFit (a .n) (r .levels) ≡ true = sym (c .before .before .before .before .gather .ensures .0) ∙ c .before .before .before .if1 .taken in
     c .parts-agree .ensures ∙ ap (λ (b : Bool). b && agrees r) (sym fit)
 
 returns-2 : tie.Need-returns-2

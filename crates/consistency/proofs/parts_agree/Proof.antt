@@ -34,10 +34,10 @@ last r sz tests false e =
     sym (fails (agrees r) (λ ok. eqb-false _ 0 e (div-eq-of-lt (top-clear r sz ok))))
 
 abbrev Inv-loop : tie.InvT-loop
-Inv-loop r masks level₀ level = (level ≤ 102) × ((k : ℕ) → k < level → levelTest r masks k ≡ true)
+Inv-loop masks r level₀ level = (level ≤ 102) × ((k : ℕ) → k < level → levelTest r masks k ≡ true)
 
 abbrev μ-loop : tie.MeasureT-loop
-μ-loop r masks level₀ level = 102 - level
+μ-loop masks r level₀ level = 102 - level
 
 sized : (c : tie.Start Inv-loop μ-loop) → Sized (c .args .t1)
 sized c = record {
@@ -61,28 +61,28 @@ element-copy-out-word c = omega arith
 mul-level-agrees : tie.Need-mul-level-agrees Inv-loop μ-loop
 mul-level-agrees c = omega arith
 
-array-read-level-agrees : tie.Need-array-read-level-agrees Inv-loop μ-loop
-array-read-level-agrees c = omega arith
+element-copy-out-level-agrees : tie.Need-element-copy-out-level-agrees Inv-loop μ-loop
+element-copy-out-level-agrees c = omega arith
 
 mul-level-agrees-2 : tie.Need-mul-level-agrees-2 Inv-loop μ-loop
 mul-level-agrees-2 c = omega arith
 
-element-copy-out-level-agrees : tie.Need-element-copy-out-level-agrees Inv-loop μ-loop
-element-copy-out-level-agrees c = omega arith
-
 element-copy-out-level-agrees-2 : tie.Need-element-copy-out-level-agrees-2 Inv-loop μ-loop
 element-copy-out-level-agrees-2 c = omega arith
+
+element-copy-out-level-agrees-3 : tie.Need-element-copy-out-level-agrees-3 Inv-loop μ-loop
+element-copy-out-level-agrees-3 c = omega arith
 
 level-agrees-requires : tie.Need-level-agrees-requires Inv-loop μ-loop
 level-agrees-requires c κs = omega arith
 
 returns : tie.Need-returns Inv-loop μ-loop
 returns c =
-    let a = c .before .before .before .before .before .before .before in
+    let a = c .before .before .before .before .before .before .before .before in
     let r = a .args .t1 in
-    let level = c .before .before .before .before .before .before .loop .level in
+    let level = c .before .before .before .before .before .before .before .loop .level in
     let h : level < 102 = omega arith in
-    let bad : levelTest r (a .args .t2) level ≡ false = sym (c .before .level-agrees .ensures) ∙ not-true (c .before .level-agrees .result) (c .if1 .taken) in
+    let bad : levelTest r (a .args .masks .now) level ≡ false = sym (c .before .level-agrees .ensures) ∙ not-true (c .before .level-agrees .result) (c .if1 .taken) in
     let bad′ : levelTest r (masksOf (r .levels)) level ≡ false = subst (λ (ms : List ℕ). levelTest r ms level ≡ false) (a .pre) bad in
     sym (fails (agrees r) (λ e. false≢true (sym bad′ ∙ test-passes r (sized a) e level h)))
 
@@ -94,7 +94,7 @@ loop-less c = omega arith
 
 loop-again : tie.Need-loop-again Inv-loop μ-loop
 loop-again c =
-    let before = c .before .before .before .before .before .before .loop in
+    let before = c .before .before .before .before .before .before .before .loop in
     (omega arith, below-more _ _ (before .inv .1) (sym (c .before .level-agrees .ensures) ∙ not-false (c .before .level-agrees .result) (c .if1 .left)))
 
 element-copy-out-result : tie.Need-element-copy-out-result Inv-loop μ-loop
@@ -118,10 +118,10 @@ parts-agree-spec =
     mul-word
     element-copy-out-word
     mul-level-agrees
-    array-read-level-agrees
-    mul-level-agrees-2
     element-copy-out-level-agrees
+    mul-level-agrees-2
     element-copy-out-level-agrees-2
+    element-copy-out-level-agrees-3
     level-agrees-requires
     returns
     add-level
