@@ -53,12 +53,8 @@ pub fn write(
     requires { ⌜ recordFits (length (now masks)) (length (now counts)) (length (now words)) (length (now levels)) ≡ true ⌝ }
     ensures { λ u. ⌜ lentRecord (now (masks .exit)) (now (counts .exit)) (now (words .exit)) (now (levels .exit)) ≡ «record» ⌝ }
 {
-    let m = record.masks;
-    copy_u64(&m, masks);
-    let c = record.counts;
-    copy_u8(&c, counts);
-    let w = record.words;
-    copy_u64(&w, words);
-    let l = record.levels;
-    copy_u8(&l, levels);
+    copy_u64(&record.masks, masks);
+    copy_u8(&record.counts, counts);
+    copy_u64(&record.words, words);
+    copy_u8(&record.levels, levels);
 }
