@@ -5,7 +5,7 @@ ghost use mathlib.Core.Bool.{true, _&&_, Bool·beq};
 ghost use Prim.Native.Nat.{_<_};
 ghost use lib.Dec.{eqb};
 ghost use Rattle.bits.specs.Bit.{bit, weight};
-ghost use Rattle.levels.specs.Level.{cpuPlaces, known};
+ghost use Rattle.levels.specs.Level.{cpuPlaces};
 ghost use Rattle.levels.specs.Record.{masksOf, active};
 ghost use Rattle.consistency.specs.Consistent.{levelFits, levelsFit, joined, agrees, consistent};
 use levels::level::Level;

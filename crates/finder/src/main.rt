@@ -4,9 +4,7 @@ use cpupri::find::Found;
 use cpupri::level::Level;
 use cpupri::record::Record;
 use libc::STDOUT_FILENO;
-ghost use Prim.Native.Nat.{_≤_, _<_};
-ghost use Rattle.cpupri.specs.Level.{cpuPlaces, levelCount};
-ghost use Rattle.cpupri.specs.Record.{Whole};
+ghost use Prim.Native.Nat.{_<_};
 
 fn main() {
     one_cpu();

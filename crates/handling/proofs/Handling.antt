@@ -12,7 +12,7 @@ use Rattle.rules.specs.WellFormed.{WellFormed}
 use Rattle.rules.specs.Events.{Event, effect}
 use Rattle.rules.specs.Refusals.{refusal}
 use Rattle.rules.specs.Migration.{Move, Settled, settled, migrate}
-use Rattle.rules.specs.Outcome.{Outcome, outcome, logged}
+use Rattle.rules.specs.Outcome.{Outcome, logged}
 use Rattle.rules.specs.Tables.{Tables, machineOf, tablesOf, flatOf, rowsOf, rowCounts, logPlaces}
 use Rattle.rules.specs.Entry.{Good, Result, kept, written, checked, eventAnswer, orElse, handled}
 use Rattle.rules.specs.LentDemand3.{LentDemand3}
@@ -20,7 +20,7 @@ use Rattle.rules.proofs.Checks.{outcome-accepted}
 use Rattle.rules.proofs.Effects.{keep-effect}
 use Rattle.rules.proofs.Runs.{settle-run, run-keeps, run-few}
 use Rattle.rules.proofs.Tables.{write-read, stored-test}
-use Rattle.rules.proofs.Entry.{checked-good, good-checked, answer-zero, handled-answer, handled-refused, handled-accepted, handled-good, start-n}
+use Rattle.rules.proofs.Entry.{checked-good, good-checked, handled-answer, handled-refused, handled-accepted, handled-good, start-n}
 use Rattle.rules.proofs.LentDemand3.{handled-lent}
 use Rattle.checker.specs.Lent.{lent}
 use Rattle.dispatch.specs.Lent.{LentAll, Answered}

@@ -1,15 +1,13 @@
 -- The record as four tables: their lengths, and when two are the same record.
 -- Assumes nothing.
-use mathlib.Core.Path.{_≡_, refl, sym, ap, _∙_}
-use mathlib.Core.Bool.{Bool, true, _&&_}
+use mathlib.Core.Path.{_≡_, ap, _∙_}
+use mathlib.Core.Bool.{true, _&&_}
 use mathlib.Core.List.{List}
 use Prim.Native.Nat.{ℕ}
 use lib.Dec.{eqb}
-use lib.ListN.{length}
 use borrow.Author.Tests.{eqb-true}
 use Rattle.bits.proofs.Tests.{and-left, and-right}
 use Rattle.cpupri.specs.Level.{levelCount, cpuPlaces}
-use Rattle.levels.specs.declared.record.Record.{Record}
 use Rattle.lentrecord.specs.Lent.{wordCount, lentRecord, recordFits}
 
 pub record Sized (m c w l : ℕ) : Type 0 where

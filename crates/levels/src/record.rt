@@ -2,8 +2,8 @@
 ghost use mathlib.Core.Path.{_≡_};
 ghost use mathlib.Core.Bool.{true};
 ghost use Prim.Native.Nat.{_≤_, _<_};
-ghost use lib.ListN.{getD, set};
-ghost use Rattle.levels.specs.Level.{known, invalid, cpuPlaces};
+ghost use lib.ListN.{set};
+ghost use Rattle.levels.specs.Level.{known, cpuPlaces};
 ghost use Rattle.levels.specs.Record.{recordOf, freshLevels, Whole};
 use super::level::Level;
 
@@ -37,7 +37,7 @@ impl Record {
         };
         let mut cpu = 0;
         while cpu < n {
-            r = r.enter(cpu, Level::IDLE);
+            r = r.set_level(cpu, Level::IDLE);
             cpu += 1;
         }
         r
@@ -51,51 +51,30 @@ impl Record {
         requires { ⌜ known (level .number) ≡ true ⌝ }
         ensures { λ r. ⌜ r ≡ recordOf (set (self .levels) cpu (level .number)) ⌝ }
     {
-        self.leave(cpu).enter(cpu, level)
-    }
-
-    // The record with the CPU at INVALID.
-    fn leave(self, cpu: usize) -> Record
-        requires { ⌜ Whole self ⌝ }
-        requires { ⌜ cpu < cpuPlaces ⌝ }
-        ensures { λ r. ⌜ r ≡ recordOf (set (self .levels) cpu invalid) ⌝ }
-    {
-        let level = self.levels[cpu];
         let invalid = Level::INVALID;
-        if level == invalid.number {
-            return self;
-        }
-        let l = level as usize;
         let mut r = self;
-        let without = bits::clear_bit(r.masks[l], cpu);
-        r.masks[l] = without;
-        let count = r.counts[l] - 1;
-        r.counts[l] = count;
-        let word = bits::put_bit(r.words[l / 64], l % 64, count != 0);
-        r.words[l / 64] = word;
-        r.levels[cpu] = invalid.number;
-        r
-    }
-
-    // The record with the CPU, which is at INVALID, at a level.
-    fn enter(self, cpu: usize, level: Level) -> Record
-        requires { ⌜ Whole self ⌝ }
-        requires { ⌜ cpu < cpuPlaces ⌝ }
-        requires { ⌜ getD (self .levels) cpu 0 ≡ invalid ⌝ }
-        requires { ⌜ known (level .number) ≡ true ⌝ }
-        ensures { λ r. ⌜ r ≡ recordOf (set (self .levels) cpu (level .number)) ⌝ }
-    {
-        let invalid = Level::INVALID;
+        // out of the old level
+        let old = r.levels[cpu];
+        if old != invalid.number {
+            let o = old as usize;
+            let without = bits::clear_bit(r.masks[o], cpu);
+            r.masks[o] = without;
+            let count = r.counts[o] - 1;
+            r.counts[o] = count;
+            let word = bits::put_bit(r.words[o / 64], o % 64, count != 0);
+            r.words[o / 64] = word;
+            r.levels[cpu] = invalid.number;
+        }
+        // and into the new one
         if level.number == invalid.number {
-            return self;
+            return r;
         }
         let l = level.number as usize;
-        let mut r = self;
         let mask = bits::set_bit(r.masks[l], cpu);
         r.masks[l] = mask;
         r.counts[l] = r.counts[l] + 1;
-        let word = bits::set_bit(r.words[l / 64], l % 64);
-        r.words[l / 64] = word;
+        let after = bits::set_bit(r.words[l / 64], l % 64);
+        r.words[l / 64] = after;
         r.levels[cpu] = level.number;
         r
     }

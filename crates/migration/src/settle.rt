@@ -1,7 +1,7 @@
 // Steps until none applies, each with an entry in the move log.
 ghost use mathlib.Core.Path.{_≡_};
-ghost use Prim.Native.Nat.{ℕ, _+_, _*_, _≤_, _<_};
-ghost use lib.ListN.{length, getD, set};
+ghost use Prim.Native.Nat.{_+_, _*_, _≤_, _<_};
+ghost use lib.ListN.{length, set};
 ghost use Rattle.bits.specs.Bit.{lowest};
 ghost use Rattle.cpupri.specs.Level.{levelOf};
 ghost use Rattle.cpupri.specs.Found.{lowestLevel, allowedAt};

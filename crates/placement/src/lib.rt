@@ -1,11 +1,9 @@
 // A task leaves or enters a run queue, and its CPU's level follows at once: the tables of rows and
 // the CPU-priority record change together.
 ghost use mathlib.Core.Path.{_≡_};
-ghost use mathlib.Core.Bool.{true};
 ghost use Prim.Native.Nat.{ℕ, _*_, _≤_, _<_};
 ghost use lib.ListN.{length, getD, set};
-ghost use Rattle.cpupri.specs.Level.{cpuPlaces, known, levelOf};
-ghost use Rattle.cpupri.specs.Record.{recordOf, Whole};
+ghost use Rattle.cpupri.specs.Level.{levelOf};
 ghost use Rattle.rules.specs.Lists.{In};
 ghost use Rattle.rules.specs.Machine.{Machine, taskPlaces, highestPriority, rowLevel, enqueue, dequeue};
 ghost use Rattle.runqueue.specs.Table.{HoldsRows, rowAt};
@@ -28,7 +26,7 @@ pub fn leave(
 {
     runqueue::table::dequeue(rows, counts, cpu, task);
     let level = cpu_level(rows, counts, prio, flags, cpu);
-    relevel(record, cpu, level)
+    record.set_level(cpu, level)
 }
 
 // The task enters the row of a CPU, which is then its CPU.
@@ -49,7 +47,7 @@ pub fn enter(
     runqueue::table::enqueue(rows, counts, prio, cpu, task);
     cpus[task as usize] = cpu as u8;
     let level = first_level(rows, prio, cpu);
-    relevel(record, cpu, level)
+    record.set_level(cpu, level)
 }
 
 // The level of a CPU: that of the task it runs or, with an empty row, its ordinary-work flag.
@@ -77,18 +75,4 @@ fn first_level(rows: &[u16], prio: &[u8], cpu: usize) -> Level
 {
     let first = rows[cpu * runqueue::row::PLACES] as usize;
     Level::of_priority(prio[first])
-}
-
-// The record with the CPU at this level. Mostly it is there already.
-fn relevel(record: Record, cpu: usize, level: Level) -> Record
-    requires { ⌜ Whole «record» ⌝ }
-    requires { ⌜ cpu < cpuPlaces ⌝ }
-    requires { ⌜ known (level .number) ≡ true ⌝ }
-    ensures { λ r. ⌜ r ≡ recordOf (set («record» .levels) cpu (level .number)) ⌝ }
-{
-    let now = record.levels[cpu];
-    if now == level.number {
-        return record;
-    }
-    record.set_level(cpu, level)
 }

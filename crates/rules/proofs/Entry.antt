@@ -20,7 +20,7 @@ use Rattle.rules.specs.Events.{add, remove, wake, sleep, set-priority, s
 use Rattle.rules.specs.Refusals.{Passes, refusal, firstFailing, badSize}
 use Rattle.rules.specs.Outcome.{Outcome, outcome, logged}
 use Rattle.rules.specs.Demand3.{Demand3}
-use Rattle.rules.specs.Tables.{Tables, machineOf, tablesOf, lengthsFit, tablesFit, recordFits, flatOf, rowCounts, storedRows, Stored, nothing, logPlaces}
+use Rattle.rules.specs.Tables.{Tables, machineOf, tablesOf, lengthsFit, tablesFit, recordFits, flatOf, rowCounts, storedRows, nothing, logPlaces}
 use Rattle.rules.specs.Entry.{Good, Result, kept, written, sizeCheck, formCheck, checked, orElse, eventAnswer, made, madeBy, handled, handledBy}
 use Rattle.rules.proofs.Bools.{both}
 use Rattle.rules.proofs.Apart.{in-row, runnable-place}

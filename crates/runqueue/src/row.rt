@@ -1,11 +1,11 @@
 // One row of 512 places. Leaving and entering move only those that stand behind.
 ghost use mathlib.Core.Path.{_≡_};
-ghost use Prim.Native.Nat.{ℕ, suc, _≤_, _<_};
+ghost use Prim.Native.Nat.{ℕ, _≤_, _<_};
 ghost use lib.Dec.{ltb};
 ghost use lib.ListN.{length, getD, take};
 ghost use Rattle.rules.specs.Lists.{In, Falling, place, delete};
 ghost use Rattle.rules.specs.Machine.{taskPlaces, queued};
-ghost use Rattle.rules.specs.Tables.{nothing, padded};
+ghost use Rattle.rules.specs.Tables.{padded};
 ghost use Rattle.runqueue.specs.Row.{HoldsRow, Closed, Opened, ahead};
 
 pub const PLACES: usize = 512;

@@ -121,8 +121,8 @@ first-level-requires c κs =
     let f = rows-fit _ _ (holds m′ _ _ _ _ h) (a .args .cpu) (here (a .pre .0 .0) l h) in
     (omega arith, (ap length (l .held .prio) ∙ l .held .order .prios, (first .0, first .1)))
 
-relevel-requires : tie.Need-relevel-requires
-relevel-requires c κs =
+set-level-requires : tie.Need-set-level-requires
+set-level-requires c κs =
     let a = c .before .before .before .before .before .before .before .before .before .before .before .before .before in
     let l = a .pre .0 .1 in
     let h = after (a .pre .0 .0) l (c .before .before .before .before .before .before .enqueue .last .1 .0) (c .before .before .before .before .before .before .enqueue .last .0) (c .before .before .before .before .before .before .enqueue .ensures .1) (c .before .before .before .before .before .before .enqueue .ensures .0) in (
@@ -148,7 +148,7 @@ returns c = (
         prio = h .prio;
         counts = h .counts;
         rows = h .rows;
-        levels = c .relevel .ensures ∙ ap recordOf (levels-after m l h (c .before .first-level .result .number) (c .before .first-level .ensures));
+        levels = c .set-level .ensures ∙ ap recordOf (levels-after m l h (c .before .first-level .result .number) (c .before .first-level .ensures));
       },
   refl,
 )
@@ -161,7 +161,7 @@ enter-spec =
     cast-cpus
     slice-write-cpus
     first-level-requires
-    relevel-requires
+    set-level-requires
     same-length
     same-length-2
     same-length-3

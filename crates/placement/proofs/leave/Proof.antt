@@ -74,8 +74,8 @@ cpu-level-requires c κs =
       ),
     )
 
-relevel-requires : tie.Need-relevel-requires
-relevel-requires c κs =
+set-level-requires : tie.Need-set-level-requires
+set-level-requires c κs =
     let a = c .before .before .before .before .before .before .before .before .before .before .before .before .before .before in
     let l = a .pre .1 in
     let h = after (a .pre .0) l (c .before .before .before .before .before .before .before .dequeue .last .1 .0) (c .before .before .before .before .before .before .before .dequeue .last .0) (c .before .before .before .before .before .before .before .dequeue .ensures .1) (c .before .before .before .before .before .before .before .dequeue .ensures .0) in (
@@ -98,7 +98,7 @@ returns c =
       prio = h .prio;
       counts = h .counts;
       rows = h .rows;
-      levels = c .relevel .ensures ∙ ap recordOf (levels-after m l h (c .before .cpu-level .result .number) (c .before .cpu-level .ensures));
+      levels = c .set-level .ensures ∙ ap recordOf (levels-after m l h (c .before .cpu-level .result .number) (c .before .cpu-level .ensures));
     }
 
 pub leave-spec : {M : Type 1} → statement M
@@ -107,7 +107,7 @@ leave-spec =
     (tie.spec
     dequeue-requires
     cpu-level-requires
-    relevel-requires
+    set-level-requires
     same-length
     same-length-2
     returns)

@@ -4,12 +4,12 @@ use mathlib.Core.Path.{_≡_, refl, ap, _∙_, subst⁻¹}
 use Prim.Native.Nat.{ℕ, suc, _-_, _≤_}
 use native.Mathlib.Numerals.{add-one}
 use native.Mathlib.Omega.{arith}
-use lib.ListN.{getD, set}
+use lib.ListN.{set}
 use Rattle.levels.specs.Level.{idle, known, cpuPlaces}
 use Rattle.bits.specs.Bit.{packed, tally}
 use Rattle.levels.specs.Record.{table, maskAt, countAt, masksOf, countsOf, wordsOf, recordOf, freshLevels, Whole}
 use Rattle.levels.specs.declared.record.Record.{Record}
-use Rattle.levels.proofs.Fresh.{fresh-whole, fresh-above, fresh-next}
+use Rattle.levels.proofs.Fresh.{fresh-whole, fresh-next}
 use Rattle.levels.proofs.record.Record.fresh.Statement.{statement}
 use Rattle.levels.proofs.record.Record.fresh.Tie as tie
 
@@ -23,15 +23,15 @@ loop-holds : tie.Need-loop-holds Inv-loop μ-loop
 unfolding recordOf masksOf countsOf wordsOf freshLevels table maskAt countAt packed tally
 loop-holds c = (omega arith, refl)
 
-enter-requires : tie.Need-enter-requires Inv-loop μ-loop
+set-level-requires : tie.Need-set-level-requires Inv-loop μ-loop
 unfolding recordOf known
-enter-requires c κs =
+set-level-requires c κs =
     let n = c .before .before .args .n in
     let cpu = c .before .loop .cpu in
     let made : c .before .loop .r ≡ recordOf (freshLevels cpu) = c .before .loop .inv .1 in
     let below : suc cpu ≤ cpuPlaces = omega arith in (
       subst⁻¹ Whole made (fresh-whole cpu (omega arith)),
-      (below, (ap (λ (r : Record). getD (r .levels) cpu 0) made ∙ fresh-above cpu cpu (omega arith) below, refl)),
+      (below, refl),
     )
 
 add-cpu : tie.Need-add-cpu Inv-loop μ-loop
@@ -47,7 +47,7 @@ loop-again c =
     let made : c .before .before .loop .r ≡ recordOf (freshLevels cpu) = c .before .before .loop .inv .1 in
     let below : suc cpu ≤ cpuPlaces = omega arith in (
       omega arith,
-      c .enter .ensures ∙ ap (λ (r : Record). recordOf (set (r .levels) cpu idle)) made ∙ ap recordOf (fresh-next cpu below)
+      c .set-level .ensures ∙ ap (λ (r : Record). recordOf (set (r .levels) cpu idle)) made ∙ ap recordOf (fresh-next cpu below)
           ∙ ap (λ (k : ℕ). recordOf (freshLevels k)) (rw add-one),
     )
 
@@ -57,4 +57,4 @@ returns c =
     c .before .loop .inv .1 ∙ ap (λ (k : ℕ). recordOf (freshLevels k)) all
 
 pub fresh-spec : {M : Type 1} → statement M
-fresh-spec = tie.close (tie.spec Inv-loop μ-loop loop-holds enter-requires add-cpu loop-less loop-again returns)
+fresh-spec = tie.close (tie.spec Inv-loop μ-loop loop-holds set-level-requires add-cpu loop-less loop-again returns)
