@@ -2,7 +2,9 @@
 
 use crate::side::{found, outcome, sum, Side, Work};
 use binding::Tables;
-use reference::{Event, Mutant};
+use compare::pair::for_reference_event;
+use compare::tables::{for_reference, from_reference};
+use reference::Mutant;
 use std::hint::black_box;
 
 pub struct Second {
@@ -12,7 +14,7 @@ pub struct Second {
 
 impl Second {
     pub fn new(start: &Tables) -> Second {
-        let start = tables(start);
+        let start = for_reference(start);
         let now = start.clone();
         Second { start, now }
     }
@@ -30,7 +32,7 @@ impl Side for Second {
                 sum((0..*times).map(|_| reference::check(black_box(&*t), Mutant::None).into()))
             }
             Work::Events(events) | Work::Inner(events) => sum(events.iter().map(|e| {
-                let o = reference::event(t, event(e), Mutant::None);
+                let o = reference::event(t, for_reference_event(*e), Mutant::None);
                 outcome(o.answer, o.moves)
             })),
             Work::Find { times, level, mask } => sum((0..*times).map(|_| {
@@ -41,54 +43,6 @@ impl Side for Second {
     }
 
     fn tables(&self) -> Tables {
-        let t = self.now.clone();
-        Tables {
-            n: t.n,
-            state: t.state,
-            policy: t.policy,
-            prio: t.prio,
-            cpu: t.cpu,
-            slice: t.slice,
-            mask: t.mask,
-            rows: t.rows,
-            counts: t.counts,
-            flags: t.flags,
-            log: t.log,
-            level_masks: t.level_masks,
-            level_counts: t.level_counts,
-            level_words: t.level_words,
-            levels: t.levels,
-        }
-    }
-}
-
-fn event(e: &binding::Event) -> Event {
-    Event {
-        kind: e.kind,
-        who: e.who,
-        a: e.a,
-        b: e.b,
-        mask: e.mask,
-    }
-}
-
-fn tables(t: &Tables) -> reference::Tables {
-    let t = t.clone();
-    reference::Tables {
-        n: t.n,
-        state: t.state,
-        policy: t.policy,
-        prio: t.prio,
-        cpu: t.cpu,
-        slice: t.slice,
-        mask: t.mask,
-        rows: t.rows,
-        counts: t.counts,
-        flags: t.flags,
-        log: t.log,
-        level_masks: t.level_masks,
-        level_counts: t.level_counts,
-        level_words: t.level_words,
-        levels: t.levels,
+        from_reference(&self.now)
     }
 }

@@ -2,109 +2,91 @@
 //!
 //! The tables are vectors, so that any length can be lent.
 
+/// Declares an entry that is lent the number of CPUs and the fourteen tables, `mut` or `const`, and then what is named.
+#[macro_export]
+macro_rules! entry {
+    ($name:ident, $pointer:tt $(, $more:ident: $type:ty)*) => {
+        extern "C" {
+            fn $name(
+                n: usize,
+                state: *$pointer u8,
+                state_len: usize,
+                policy: *$pointer u8,
+                policy_len: usize,
+                prio: *$pointer u8,
+                prio_len: usize,
+                cpu: *$pointer u8,
+                cpu_len: usize,
+                slice: *$pointer u16,
+                slice_len: usize,
+                mask: *$pointer u64,
+                mask_len: usize,
+                rows: *$pointer u16,
+                rows_len: usize,
+                counts: *$pointer u16,
+                counts_len: usize,
+                flags: *$pointer u8,
+                flags_len: usize,
+                log: *$pointer u16,
+                log_len: usize,
+                level_masks: *$pointer u64,
+                level_masks_len: usize,
+                level_counts: *$pointer u8,
+                level_counts_len: usize,
+                level_words: *$pointer u64,
+                level_words_len: usize,
+                levels: *$pointer u8,
+                levels_len: usize,
+                $($more: $type),*
+            ) -> u8;
+        }
+    };
+}
+
+/// Calls such an entry: each table is lent as its pointer, from `as_ptr` or `as_mut_ptr`, and its length.
+#[macro_export]
+macro_rules! lend {
+    ($name:ident, $tables:expr, $pointer:ident $(, $more:expr)*) => {
+        $name(
+            $tables.n,
+            $tables.state.$pointer(),
+            $tables.state.len(),
+            $tables.policy.$pointer(),
+            $tables.policy.len(),
+            $tables.prio.$pointer(),
+            $tables.prio.len(),
+            $tables.cpu.$pointer(),
+            $tables.cpu.len(),
+            $tables.slice.$pointer(),
+            $tables.slice.len(),
+            $tables.mask.$pointer(),
+            $tables.mask.len(),
+            $tables.rows.$pointer(),
+            $tables.rows.len(),
+            $tables.counts.$pointer(),
+            $tables.counts.len(),
+            $tables.flags.$pointer(),
+            $tables.flags.len(),
+            $tables.log.$pointer(),
+            $tables.log.len(),
+            $tables.level_masks.$pointer(),
+            $tables.level_masks.len(),
+            $tables.level_counts.$pointer(),
+            $tables.level_counts.len(),
+            $tables.level_words.$pointer(),
+            $tables.level_words.len(),
+            $tables.levels.$pointer(),
+            $tables.levels.len(),
+            $($more),*
+        )
+    };
+}
+
+entry!(qoriwesh_make_fresh, mut);
+entry!(qoriwesh_check, const);
+entry!(qoriwesh_event, mut, kind: u32, who: u32, a: u32, b: u32, k: u64, moves: *mut u32);
+
 extern "C" {
-    fn qoriwesh_make_fresh(
-        n: usize,
-        state: *mut u8,
-        state_len: usize,
-        policy: *mut u8,
-        policy_len: usize,
-        prio: *mut u8,
-        prio_len: usize,
-        cpu: *mut u8,
-        cpu_len: usize,
-        slice: *mut u16,
-        slice_len: usize,
-        mask: *mut u64,
-        mask_len: usize,
-        rows: *mut u16,
-        rows_len: usize,
-        counts: *mut u16,
-        counts_len: usize,
-        flags: *mut u8,
-        flags_len: usize,
-        log: *mut u16,
-        log_len: usize,
-        level_masks: *mut u64,
-        level_masks_len: usize,
-        level_counts: *mut u8,
-        level_counts_len: usize,
-        level_words: *mut u64,
-        level_words_len: usize,
-        levels: *mut u8,
-        levels_len: usize,
-    ) -> u8;
-
-    fn qoriwesh_check(
-        n: usize,
-        state: *const u8,
-        state_len: usize,
-        policy: *const u8,
-        policy_len: usize,
-        prio: *const u8,
-        prio_len: usize,
-        cpu: *const u8,
-        cpu_len: usize,
-        slice: *const u16,
-        slice_len: usize,
-        mask: *const u64,
-        mask_len: usize,
-        rows: *const u16,
-        rows_len: usize,
-        counts: *const u16,
-        counts_len: usize,
-        flags: *const u8,
-        flags_len: usize,
-        log: *const u16,
-        log_len: usize,
-        level_masks: *const u64,
-        level_masks_len: usize,
-        level_counts: *const u8,
-        level_counts_len: usize,
-        level_words: *const u64,
-        level_words_len: usize,
-        levels: *const u8,
-        levels_len: usize,
-    ) -> u8;
-
-    fn qoriwesh_event(
-        n: usize,
-        state: *mut u8,
-        state_len: usize,
-        policy: *mut u8,
-        policy_len: usize,
-        prio: *mut u8,
-        prio_len: usize,
-        cpu: *mut u8,
-        cpu_len: usize,
-        slice: *mut u16,
-        slice_len: usize,
-        mask: *mut u64,
-        mask_len: usize,
-        rows: *mut u16,
-        rows_len: usize,
-        counts: *mut u16,
-        counts_len: usize,
-        flags: *mut u8,
-        flags_len: usize,
-        log: *mut u16,
-        log_len: usize,
-        level_masks: *mut u64,
-        level_masks_len: usize,
-        level_counts: *mut u8,
-        level_counts_len: usize,
-        level_words: *mut u64,
-        level_words_len: usize,
-        levels: *mut u8,
-        levels_len: usize,
-        kind: u32,
-        who: u32,
-        a: u32,
-        b: u32,
-        k: u64,
-        moves: *mut u32,
-    ) -> u8;
-
     fn qoriwesh_find(
         n: usize,
         level_masks: *const u64,
@@ -212,118 +194,28 @@ impl Tables {
 
     pub fn make_fresh(&mut self) -> u8 {
         // Safety: each pointer is a vector's own, with its length, and no two vectors overlap.
-        unsafe {
-            qoriwesh_make_fresh(
-                self.n,
-                self.state.as_mut_ptr(),
-                self.state.len(),
-                self.policy.as_mut_ptr(),
-                self.policy.len(),
-                self.prio.as_mut_ptr(),
-                self.prio.len(),
-                self.cpu.as_mut_ptr(),
-                self.cpu.len(),
-                self.slice.as_mut_ptr(),
-                self.slice.len(),
-                self.mask.as_mut_ptr(),
-                self.mask.len(),
-                self.rows.as_mut_ptr(),
-                self.rows.len(),
-                self.counts.as_mut_ptr(),
-                self.counts.len(),
-                self.flags.as_mut_ptr(),
-                self.flags.len(),
-                self.log.as_mut_ptr(),
-                self.log.len(),
-                self.level_masks.as_mut_ptr(),
-                self.level_masks.len(),
-                self.level_counts.as_mut_ptr(),
-                self.level_counts.len(),
-                self.level_words.as_mut_ptr(),
-                self.level_words.len(),
-                self.levels.as_mut_ptr(),
-                self.levels.len(),
-            )
-        }
+        unsafe { lend!(qoriwesh_make_fresh, self, as_mut_ptr) }
     }
 
     pub fn check(&self) -> u8 {
         // Safety: as in `make_fresh`; nothing is written.
-        unsafe {
-            qoriwesh_check(
-                self.n,
-                self.state.as_ptr(),
-                self.state.len(),
-                self.policy.as_ptr(),
-                self.policy.len(),
-                self.prio.as_ptr(),
-                self.prio.len(),
-                self.cpu.as_ptr(),
-                self.cpu.len(),
-                self.slice.as_ptr(),
-                self.slice.len(),
-                self.mask.as_ptr(),
-                self.mask.len(),
-                self.rows.as_ptr(),
-                self.rows.len(),
-                self.counts.as_ptr(),
-                self.counts.len(),
-                self.flags.as_ptr(),
-                self.flags.len(),
-                self.log.as_ptr(),
-                self.log.len(),
-                self.level_masks.as_ptr(),
-                self.level_masks.len(),
-                self.level_counts.as_ptr(),
-                self.level_counts.len(),
-                self.level_words.as_ptr(),
-                self.level_words.len(),
-                self.levels.as_ptr(),
-                self.levels.len(),
-            )
-        }
+        unsafe { lend!(qoriwesh_check, self, as_ptr) }
     }
 
     pub fn event(&mut self, e: Event) -> Outcome {
         let mut moves = 0;
         // Safety: as in `make_fresh`; `moves` is a local of this function.
         let answer = unsafe {
-            qoriwesh_event(
-                self.n,
-                self.state.as_mut_ptr(),
-                self.state.len(),
-                self.policy.as_mut_ptr(),
-                self.policy.len(),
-                self.prio.as_mut_ptr(),
-                self.prio.len(),
-                self.cpu.as_mut_ptr(),
-                self.cpu.len(),
-                self.slice.as_mut_ptr(),
-                self.slice.len(),
-                self.mask.as_mut_ptr(),
-                self.mask.len(),
-                self.rows.as_mut_ptr(),
-                self.rows.len(),
-                self.counts.as_mut_ptr(),
-                self.counts.len(),
-                self.flags.as_mut_ptr(),
-                self.flags.len(),
-                self.log.as_mut_ptr(),
-                self.log.len(),
-                self.level_masks.as_mut_ptr(),
-                self.level_masks.len(),
-                self.level_counts.as_mut_ptr(),
-                self.level_counts.len(),
-                self.level_words.as_mut_ptr(),
-                self.level_words.len(),
-                self.levels.as_mut_ptr(),
-                self.levels.len(),
+            lend!(
+                qoriwesh_event,
+                self,
+                as_mut_ptr,
                 e.kind,
                 e.who,
                 e.a,
                 e.b,
                 e.mask,
-                &mut moves,
+                &mut moves
             )
         };
         Outcome { answer, moves }
