@@ -1,10 +1,12 @@
 // Kinds 5 and 6: a task gets another priority or another affinity mask.
 ghost use Prim.Native.Nat.{ℕ};
+ghost use Rattle.cpupri.specs.Record.{lentRecord};
 ghost use Rattle.rules.specs.Machine.{Machine};
 ghost use Rattle.rules.specs.Events.{event};
 ghost use Rattle.effects.specs.Lent.{LentPriority, Reprioritised, LentAffinity, Reaffined};
-use cpupri::record::Record;
-use effects::answer::Applied;
+use cpupri::record::CPUS;
+use cpupri::record::LEVELS;
+use cpupri::record::WORDS;
 use effects::check;
 use rules::answer;
 use rules::task;
@@ -18,43 +20,56 @@ pub fn set_priority(
     flags: &[u8],
     rows: &mut [u16],
     counts: &mut [u16],
+    masks: &mut [u64; LEVELS],
+    tallies: &mut [u8; LEVELS],
+    words: &mut [u64; WORDS],
+    levels: &mut [u8; CPUS],
     who: u32,
     b: u32,
-    record: Record,
-) -> Applied
-    requires { ⌜ ((m : Machine) × LentPriority m (now state) (now prio) (now cpu) (now flags) (now rows) (now counts) «record») ⌝ }
-    ensures { λ r. ⌜ ((m : Machine) (kind a k : ℕ) → LentPriority m (now (state .entry)) (now (prio .entry)) (now (cpu .entry)) (now (flags .entry)) (now (rows .entry)) (now (counts .entry)) «record» → Reprioritised m (event kind who a b k) (r .answer) (now (prio .exit)) (now (cpu .exit)) (now (rows .exit)) (now (counts .exit)) (r .«record»)) ⌝ }
+) -> u8
+    requires { ⌜ ((m : Machine) × LentPriority m (now state) (now prio) (now cpu) (now flags) (now rows) (now counts) (lentRecord (now masks) (now tallies) (now words) (now levels))) ⌝ }
+    ensures { λ r. ⌜ ((m : Machine) (kind a k : ℕ) → LentPriority m (now (state .entry)) (now (prio .entry)) (now (cpu .entry)) (now (flags .entry)) (now (rows .entry)) (now (counts .entry)) (lentRecord (now (masks .entry)) (now (tallies .entry)) (now (words .entry)) (now (levels .entry))) → Reprioritised m (event kind who a b k) r (now (prio .exit)) (now (cpu .exit)) (now (rows .exit)) (now (counts .exit)) (lentRecord (now (masks .exit)) (now (tallies .exit)) (now (words .exit)) (now (levels .exit)))) ⌝ }
 {
     let number = check::changeable_priority(state, who, b);
     if number != answer::ACCEPTED {
-        return Applied {
-            answer: number,
-            record: record,
-        };
+        return number;
     }
     let at = who as usize;
     let priority = b as u8;
     if state[at] != task::RUNNABLE {
         prio[at] = priority;
-        return Applied {
-            answer: answer::ACCEPTED,
-            record: record,
-        };
+        return answer::ACCEPTED;
     }
     if prio[at] == priority {
-        return Applied {
-            answer: answer::ACCEPTED,
-            record: record,
-        };
+        return answer::ACCEPTED;
     }
     let home = cpu[at] as usize;
-    let left = placement::leave(rows, counts, prio, flags, home, who as u16, record);
+    placement::leave(
+        rows,
+        counts,
+        prio,
+        flags,
+        masks,
+        tallies,
+        words,
+        levels,
+        home,
+        who as u16,
+    );
     prio[at] = priority;
-    let entered = placement::enter(rows, counts, prio, cpu, home, who as u16, left);
-    Applied {
-        answer: answer::ACCEPTED,
-        record: entered,
-    }
+    placement::enter(
+        rows,
+        counts,
+        prio,
+        cpu,
+        masks,
+        tallies,
+        words,
+        levels,
+        home,
+        who as u16,
+    );
+    answer::ACCEPTED
 }
 
 // Asleep, or its CPU still allowed: the mask only. Else the task leaves its row and enters that of
@@ -68,40 +83,53 @@ pub fn set_affinity(
     flags: &[u8],
     rows: &mut [u16],
     counts: &mut [u16],
+    masks: &mut [u64; LEVELS],
+    tallies: &mut [u8; LEVELS],
+    words: &mut [u64; WORDS],
+    levels: &mut [u8; CPUS],
     who: u32,
     k: u64,
-    record: Record,
-) -> Applied
-    requires { ⌜ ((m : Machine) × LentAffinity m n (now state) (now mask) (now cpu) (now prio) (now flags) (now rows) (now counts) «record») ⌝ }
-    ensures { λ r. ⌜ ((m : Machine) (kind a b : ℕ) → LentAffinity m n (now (state .entry)) (now (mask .entry)) (now (cpu .entry)) (now (prio .entry)) (now (flags .entry)) (now (rows .entry)) (now (counts .entry)) «record» → Reaffined m (event kind who a b k) (r .answer) (now (mask .exit)) (now (cpu .exit)) (now (rows .exit)) (now (counts .exit)) (r .«record»)) ⌝ }
+) -> u8
+    requires { ⌜ ((m : Machine) × LentAffinity m n (now state) (now mask) (now cpu) (now prio) (now flags) (now rows) (now counts) (lentRecord (now masks) (now tallies) (now words) (now levels))) ⌝ }
+    ensures { λ r. ⌜ ((m : Machine) (kind a b : ℕ) → LentAffinity m n (now (state .entry)) (now (mask .entry)) (now (cpu .entry)) (now (prio .entry)) (now (flags .entry)) (now (rows .entry)) (now (counts .entry)) (lentRecord (now (masks .entry)) (now (tallies .entry)) (now (words .entry)) (now (levels .entry))) → Reaffined m (event kind who a b k) r (now (mask .exit)) (now (cpu .exit)) (now (rows .exit)) (now (counts .exit)) (lentRecord (now (masks .exit)) (now (tallies .exit)) (now (words .exit)) (now (levels .exit)))) ⌝ }
 {
     let number = check::changeable_mask(n, state, who, k);
     if number != answer::ACCEPTED {
-        return Applied {
-            answer: number,
-            record: record,
-        };
+        return number;
     }
     let at = who as usize;
     mask[at] = k;
     if state[at] != task::RUNNABLE {
-        return Applied {
-            answer: answer::ACCEPTED,
-            record: record,
-        };
+        return answer::ACCEPTED;
     }
     let home = cpu[at] as usize;
     if bits::test_bit(k, home) {
-        return Applied {
-            answer: answer::ACCEPTED,
-            record: record,
-        };
+        return answer::ACCEPTED;
     }
-    let left = placement::leave(rows, counts, prio, flags, home, who as u16, record);
+    placement::leave(
+        rows,
+        counts,
+        prio,
+        flags,
+        masks,
+        tallies,
+        words,
+        levels,
+        home,
+        who as u16,
+    );
     let target = bits::lowest_bit(k) as usize;
-    let entered = placement::enter(rows, counts, prio, cpu, target, who as u16, left);
-    Applied {
-        answer: answer::ACCEPTED,
-        record: entered,
-    }
+    placement::enter(
+        rows,
+        counts,
+        prio,
+        cpu,
+        masks,
+        tallies,
+        words,
+        levels,
+        target,
+        who as u16,
+    );
+    answer::ACCEPTED
 }

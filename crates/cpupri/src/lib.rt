@@ -3,5 +3,6 @@
 // run queue. Setting a level touches a constant number of places; a search reads one mask a level.
 pub mod consistent;
 pub mod find;
+pub mod lent;
 pub mod level;
 pub mod record;

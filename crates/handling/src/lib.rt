@@ -1,16 +1,19 @@
 // An event on tables that pass the check: the event's own effect, then migration steps until none applies.
 ghost use mathlib.Core.Path.{_≡_};
+ghost use Rattle.cpupri.specs.Record.{lentRecord};
 ghost use Rattle.rules.specs.Entry.{checked, handled};
 ghost use Rattle.rules.specs.Events.{event as numbers};
 ghost use Rattle.checker.specs.Lent.{lent};
 ghost use Rattle.handling.specs.Result.{result};
-use cpupri::record::Record;
+use cpupri::record::CPUS;
+use cpupri::record::LEVELS;
+use cpupri::record::WORDS;
+use migration::settle::settle;
 
-// The answer to an event: 0 and the number of moves, or a refusal, which changes nothing.
-pub struct Outcome {
+// The answer to an event: 0 and the number of moves, or a refusal with 0 moves, which changes nothing.
+pub struct Handled {
     pub answer: u8,
     pub moves: u32,
-    pub record: Record,
 }
 
 // One event on well-formed tables, which stay well-formed. Nothing is checked again but the event.
@@ -26,18 +29,21 @@ pub fn handle(
     counts: &mut [u16],
     flags: &mut [u8],
     log: &mut [u16],
+    masks: &mut [u64; LEVELS],
+    tallies: &mut [u8; LEVELS],
+    words: &mut [u64; WORDS],
+    levels: &mut [u8; CPUS],
     kind: u32,
     who: u32,
     a: u32,
     b: u32,
     k: u64,
-    record: Record,
-) -> Outcome
-    requires { ⌜ checked n «record» (lent (now state) (now policy) (now prio) (now cpu) (now slice) (now mask) (now rows) (now counts) (now flags) (now log)) ≡ 0 ⌝ }
-    ensures { λ o. ⌜ result (o .answer) (o .moves) (o .«record») (lent (now (state .exit)) (now (policy .exit)) (now (prio .exit)) (now (cpu .exit)) (now (slice .exit)) (now (mask .exit)) (now (rows .exit)) (now (counts .exit)) (now (flags .exit)) (now (log .exit))) ≡ handled n «record» (lent (now (state .entry)) (now (policy .entry)) (now (prio .entry)) (now (cpu .entry)) (now (slice .entry)) (now (mask .entry)) (now (rows .entry)) (now (counts .entry)) (now (flags .entry)) (now (log .entry))) (numbers kind who a b k) ⌝ }
-    ensures { λ o. ⌜ checked n (o .«record») (lent (now (state .exit)) (now (policy .exit)) (now (prio .exit)) (now (cpu .exit)) (now (slice .exit)) (now (mask .exit)) (now (rows .exit)) (now (counts .exit)) (now (flags .exit)) (now (log .exit))) ≡ 0 ⌝ }
+) -> Handled
+    requires { ⌜ checked n (lentRecord (now masks) (now tallies) (now words) (now levels)) (lent (now state) (now policy) (now prio) (now cpu) (now slice) (now mask) (now rows) (now counts) (now flags) (now log)) ≡ 0 ⌝ }
+    ensures { λ o. ⌜ result (o .answer) (o .moves) (lentRecord (now (masks .exit)) (now (tallies .exit)) (now (words .exit)) (now (levels .exit))) (lent (now (state .exit)) (now (policy .exit)) (now (prio .exit)) (now (cpu .exit)) (now (slice .exit)) (now (mask .exit)) (now (rows .exit)) (now (counts .exit)) (now (flags .exit)) (now (log .exit))) ≡ handled n (lentRecord (now (masks .entry)) (now (tallies .entry)) (now (words .entry)) (now (levels .entry))) (lent (now (state .entry)) (now (policy .entry)) (now (prio .entry)) (now (cpu .entry)) (now (slice .entry)) (now (mask .entry)) (now (rows .entry)) (now (counts .entry)) (now (flags .entry)) (now (log .entry))) (numbers kind who a b k) ⌝ }
+    ensures { λ o. ⌜ checked n (lentRecord (now (masks .exit)) (now (tallies .exit)) (now (words .exit)) (now (levels .exit))) (lent (now (state .exit)) (now (policy .exit)) (now (prio .exit)) (now (cpu .exit)) (now (slice .exit)) (now (mask .exit)) (now (rows .exit)) (now (counts .exit)) (now (flags .exit)) (now (log .exit))) ≡ 0 ⌝ }
 {
-    let applied = dispatch::apply(
+    let refusal = dispatch::apply(
         n,
         state,
         policy,
@@ -48,27 +54,37 @@ pub fn handle(
         rows,
         counts,
         flags,
+        masks,
+        tallies,
+        words,
+        levels,
         kind,
         who,
         a,
         b,
         k,
-        record,
     );
-    let refusal = applied.answer;
-    let changed = applied.record;
     if refusal != 0 {
-        return Outcome {
+        return Handled {
             answer: refusal,
             moves: 0,
-            record: changed,
         };
     }
-    let steps = migration::settle::settle(n, prio, cpu, mask, rows, counts, log, changed);
-    let settled = steps.record;
-    Outcome {
+    let steps = settle(
+        n,
+        prio,
+        cpu,
+        mask,
+        rows,
+        counts,
+        log,
+        masks,
+        tallies,
+        words,
+        levels,
+    );
+    Handled {
         answer: 0,
-        moves: steps.moves as u32,
-        record: settled,
+        moves: steps as u32,
     }
 }

@@ -1,19 +1,16 @@
 -- The record as a C caller lends it: four tables, and the lengths with which they can hold one.
 -- Assumes nothing.
 use mathlib.Core.Bool.{Bool, _&&_}
-use mathlib.Core.List.{List}
 use Prim.Native.Nat.{ℕ}
 use lib.Dec.{eqb}
 use lib.ListN.{length}
 use Rattle.cpupri.specs.Level.{levelCount, cpuPlaces}
 use Rattle.levels.specs.declared.record.Record.{Record}
+pub use Rattle.cpupri.specs.Record.{lentRecord}
 
 -- two words of level bits
 abbrev pub wordCount : ℕ
 wordCount = 2
-
-abbrev pub lentRecord : List ℕ → List ℕ → List ℕ → List ℕ → Record
-lentRecord masks counts words levels = record { masks = masks; counts = counts; words = words; levels = levels }
 
 -- tables of these lengths can hold a record
 unfoldable pub recordFits : ℕ → ℕ → ℕ → ℕ → Bool

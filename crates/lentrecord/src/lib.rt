@@ -8,11 +8,9 @@ use copy::copy_u64;
 use cpupri::record::CPUS;
 use cpupri::record::LEVELS;
 use cpupri::record::Record;
+use cpupri::record::WORDS;
 
 mod copy;
-
-// The two words of level bits.
-pub const WORDS: usize = 2;
 
 // Whether the four tables have the record's lengths.
 pub fn lengths_fit(masks: usize, counts: usize, words: usize, levels: usize) -> bool

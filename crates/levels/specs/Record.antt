@@ -40,6 +40,10 @@ wordsOf counts = packed active (take 64 counts) ∷ packed active (drop 64 count
 unfoldable pub recordOf : List ℕ → Record
 recordOf levels = record { masks = masksOf levels; counts = countsOf levels; words = wordsOf (countsOf levels); levels = levels }
 
+-- the record that four lent tables hold
+abbrev pub lentRecord : List ℕ → List ℕ → List ℕ → List ℕ → Record
+lentRecord masks counts words levels = record { masks = masks; counts = counts; words = words; levels = levels }
+
 -- the levels of a fresh machine of n CPUs: the CPUs are idle, and the other places hold INVALID
 unfoldable pub freshLevels : ℕ → List ℕ
 freshLevels n = replicate n idle ++ replicate (cpuPlaces - n) invalid

@@ -9,8 +9,14 @@ ghost use Rattle.checker.specs.Lent.{lent};
 ghost use Rattle.rules.specs.Events.{event as numbers};
 ghost use Rattle.machine.specs.Result.{result};
 use cpupri::record::Record;
-pub use handling::Outcome;
 pub use handling::handle;
+
+// The answer to an event: 0 and the number of moves, or a refusal, which changes nothing; and the record handed back.
+pub struct Outcome {
+    pub answer: u8,
+    pub moves: u32,
+    pub record: Record,
+}
 
 // One event on any tables. Refused with the first number that applies: 1 (N or a table's length), 2 (the
 // tables or the record are not well-formed), 3 to 9 (the event).
@@ -58,7 +64,11 @@ pub fn event(
             record,
         };
     }
-    handle(
+    let mut masks = record.masks;
+    let mut tallies = record.counts;
+    let mut words = record.words;
+    let mut levels = record.levels;
+    let done = handle(
         n,
         state,
         policy,
@@ -70,11 +80,25 @@ pub fn event(
         counts,
         flags,
         log,
+        &mut masks,
+        &mut tallies,
+        &mut words,
+        &mut levels,
         kind,
         who,
         a,
         b,
         k,
-        record,
-    )
+    );
+    let after = Record {
+        masks,
+        counts: tallies,
+        words,
+        levels,
+    };
+    Outcome {
+        answer: done.answer,
+        moves: done.moves,
+        record: after,
+    }
 }

@@ -4,6 +4,7 @@ ghost use Prim.Native.Nat.{_+_, _*_, _≤_, _<_};
 ghost use lib.ListN.{length, set};
 ghost use Rattle.bits.specs.Bit.{lowest};
 ghost use Rattle.cpupri.specs.Level.{levelOf};
+ghost use Rattle.cpupri.specs.Record.{lentRecord};
 ghost use Rattle.cpupri.specs.Found.{lowestLevel, allowedAt};
 ghost use Rattle.rules.specs.Machine.{Machine, taskPlaces, highestPriority, enqueue, dequeue};
 ghost use Rattle.rules.specs.Migration.{settled};
@@ -12,17 +13,12 @@ ghost use Rattle.placement.specs.Held.{Held};
 ghost use Rattle.migration.specs.Settling.{Settling, Stepping, Ended};
 use cpupri::find::Found;
 use cpupri::level::Level;
+use cpupri::record::CPUS;
 use cpupri::record::LEVELS;
-use cpupri::record::Record;
+use cpupri::record::WORDS;
 use mover::pick::pick;
 
-// How many steps were taken, and the record with which they end.
-pub struct Steps {
-    pub moves: usize,
-    pub record: Record,
-}
-
-// Takes the steps of a machine of n CPUs. There are at most n - 1, so the log has room.
+// Takes the steps of a machine of n CPUs, and says how many there were. There are at most n - 1, so the log has room.
 pub fn settle(
     n: usize,
     prio: &[u8],
@@ -31,25 +27,39 @@ pub fn settle(
     rows: &mut [u16],
     counts: &mut [u16],
     log: &mut [u16],
-    record: Record,
-) -> Steps
-    requires { ⌜ ((m : Machine) × (Settling m (now prio) (now cpu) (now mask) (now counts) (now rows) «record» × (n ≡ m .n))) ⌝ }
+    masks: &mut [u64; LEVELS],
+    tallies: &mut [u8; LEVELS],
+    words: &mut [u64; WORDS],
+    levels: &mut [u8; CPUS],
+) -> usize
+    requires { ⌜ ((m : Machine) × (Settling m (now prio) (now cpu) (now mask) (now counts) (now rows) (lentRecord (now masks) (now tallies) (now words) (now levels)) × (n ≡ m .n))) ⌝ }
     requires { ⌜ length (now log) ≡ logPlaces ⌝ }
-    ensures { λ r. ⌜ ((m : Machine) → Settling m (now (prio .entry)) (now (cpu .entry)) (now (mask .entry)) (now (counts .entry)) (now (rows .entry)) «record» → n ≡ m .n → Ended (settled m) (now (prio .entry)) (now (cpu .exit)) (now (counts .exit)) (now (rows .exit)) (now (log .entry)) (now (log .exit)) (r .moves) (r .«record»)) ⌝ }
+    ensures { λ r. ⌜ ((m : Machine) → Settling m (now (prio .entry)) (now (cpu .entry)) (now (mask .entry)) (now (counts .entry)) (now (rows .entry)) (lentRecord (now (masks .entry)) (now (tallies .entry)) (now (words .entry)) (now (levels .entry))) → n ≡ m .n → Ended (settled m) (now (prio .entry)) (now (cpu .exit)) (now (counts .exit)) (now (rows .exit)) (now (log .entry)) (now (log .exit)) r (lentRecord (now (masks .exit)) (now (tallies .exit)) (now (words .exit)) (now (levels .exit)))) ⌝ }
 {
     let mut moves = 0;
-    let mut r = record;
     loop {
-        let mover = pick(n, prio, mask, rows, counts, &r.masks);
+        let mover = pick(n, prio, mask, rows, counts, masks);
         let priority = mover.priority;
         if priority == 0 {
-            return Steps { moves, record: r };
+            return moves;
         }
         let task = mover.task;
         let origin = mover.origin;
-        let target = destination(&r.masks, priority, mask[task as usize]);
+        let target = destination(masks, priority, mask[task as usize]);
         note(log, moves, task, origin, target);
-        r = migrate(rows, counts, prio, cpu, origin, target, task, r);
+        migrate(
+            rows,
+            counts,
+            prio,
+            cpu,
+            masks,
+            tallies,
+            words,
+            levels,
+            origin,
+            target,
+            task,
+        );
         moves += 1;
     }
 }
@@ -61,18 +71,32 @@ fn migrate(
     counts: &mut [u16],
     prio: &[u8],
     cpus: &mut [u8],
+    masks: &mut [u64; LEVELS],
+    tallies: &mut [u8; LEVELS],
+    words: &mut [u64; WORDS],
+    levels: &mut [u8; CPUS],
     origin: usize,
     target: usize,
     task: u16,
-    record: Record,
-) -> Record
-    requires { ⌜ ((m : Machine) × Stepping m (now prio) (now counts) (now rows) «record» task origin target) ⌝ }
+)
+    requires { ⌜ ((m : Machine) × Stepping m (now prio) (now counts) (now rows) (lentRecord (now masks) (now tallies) (now words) (now levels)) task origin target) ⌝ }
     requires { ⌜ length (now cpus) ≡ taskPlaces ⌝ }
-    ensures { λ r. ⌜ ((m : Machine) → Stepping m (now (prio .entry)) (now (counts .entry)) (now (rows .entry)) «record» task origin target → Held (enqueue task target (dequeue task origin m)) (now (prio .entry)) (now (counts .exit)) (now (rows .exit)) r) ⌝ }
-    ensures { λ r. ⌜ now (cpus .exit) ≡ set (now (cpus .entry)) task target ⌝ }
+    ensures { λ u. ⌜ ((m : Machine) → Stepping m (now (prio .entry)) (now (counts .entry)) (now (rows .entry)) (lentRecord (now (masks .entry)) (now (tallies .entry)) (now (words .entry)) (now (levels .entry))) task origin target → Held (enqueue task target (dequeue task origin m)) (now (prio .entry)) (now (counts .exit)) (now (rows .exit)) (lentRecord (now (masks .exit)) (now (tallies .exit)) (now (words .exit)) (now (levels .exit)))) ⌝ }
+    ensures { λ u. ⌜ now (cpus .exit) ≡ set (now (cpus .entry)) task target ⌝ }
 {
     runqueue::table::dequeue(rows, counts, origin, task);
-    placement::enter(rows, counts, prio, cpus, target, task, record)
+    placement::enter(
+        rows,
+        counts,
+        prio,
+        cpus,
+        masks,
+        tallies,
+        words,
+        levels,
+        target,
+        task,
+    );
 }
 
 // Of the CPUs of the mask, one of the lowest level; among equals the lowest-numbered.

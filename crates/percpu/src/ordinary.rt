@@ -1,11 +1,14 @@
 // Kind 9: whether a CPU has ordinary work.
 ghost use Prim.Native.Nat.{ℕ};
+ghost use Rattle.cpupri.specs.Record.{lentRecord};
 ghost use Rattle.rules.specs.Machine.{Machine};
 ghost use Rattle.rules.specs.Events.{event};
 ghost use Rattle.effects.specs.Lent.{LentOrdinary, Flagged};
+use cpupri::lent::set_level;
 use cpupri::level::Level;
-use cpupri::record::Record;
-use effects::answer::Applied;
+use cpupri::record::CPUS;
+use cpupri::record::LEVELS;
+use cpupri::record::WORDS;
 use rules::answer;
 
 // there is ordinary work; 0: there is none
@@ -16,37 +19,28 @@ pub fn set_ordinary(
     n: usize,
     flags: &mut [u8],
     counts: &[u16],
+    masks: &mut [u64; LEVELS],
+    tallies: &mut [u8; LEVELS],
+    words: &mut [u64; WORDS],
+    levels: &mut [u8; CPUS],
     who: u32,
     b: u32,
-    record: Record,
-) -> Applied
-    requires { ⌜ ((m : Machine) × LentOrdinary m n (now flags) (now counts) «record») ⌝ }
-    ensures { λ r. ⌜ ((m : Machine) (kind a k : ℕ) → LentOrdinary m n (now (flags .entry)) (now (counts .entry)) «record» → Flagged m (event kind who a b k) (r .answer) (now (flags .exit)) (r .«record»)) ⌝ }
+) -> u8
+    requires { ⌜ ((m : Machine) × LentOrdinary m n (now flags) (now counts) (lentRecord (now masks) (now tallies) (now words) (now levels))) ⌝ }
+    ensures { λ r. ⌜ ((m : Machine) (kind a k : ℕ) → LentOrdinary m n (now (flags .entry)) (now (counts .entry)) (lentRecord (now (masks .entry)) (now (tallies .entry)) (now (words .entry)) (now (levels .entry))) → Flagged m (event kind who a b k) r (now (flags .exit)) (lentRecord (now (masks .exit)) (now (tallies .exit)) (now (words .exit)) (now (levels .exit)))) ⌝ }
 {
     let cpu = who as usize;
     if n <= cpu {
-        return Applied {
-            answer: answer::BAD_NUMBER,
-            record: record,
-        };
+        return answer::BAD_NUMBER;
     }
     if WORK < b {
-        return Applied {
-            answer: answer::BAD_VALUE,
-            record: record,
-        };
+        return answer::BAD_VALUE;
     }
     let flag = b as u8;
     flags[cpu] = flag;
     if counts[cpu] != 0 {
-        return Applied {
-            answer: answer::ACCEPTED,
-            record: record,
-        };
+        return answer::ACCEPTED;
     }
-    let flagged = record.set_level(cpu, Level { number: flag });
-    Applied {
-        answer: answer::ACCEPTED,
-        record: flagged,
-    }
+    set_level(masks, tallies, words, levels, cpu, Level { number: flag });
+    answer::ACCEPTED
 }

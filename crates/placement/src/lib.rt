@@ -3,13 +3,17 @@
 ghost use mathlib.Core.Path.{_≡_};
 ghost use Prim.Native.Nat.{ℕ, _*_, _≤_, _<_};
 ghost use lib.ListN.{length, getD, set};
+ghost use Rattle.cpupri.specs.Record.{lentRecord};
 ghost use Rattle.cpupri.specs.Level.{levelOf};
 ghost use Rattle.rules.specs.Lists.{In};
 ghost use Rattle.rules.specs.Machine.{Machine, taskPlaces, highestPriority, rowLevel, enqueue, dequeue};
 ghost use Rattle.runqueue.specs.Table.{HoldsRows, rowAt};
 ghost use Rattle.placement.specs.Held.{Held, Leaving, Entering};
+use cpupri::lent::set_level;
 use cpupri::level::Level;
-use cpupri::record::Record;
+use cpupri::record::CPUS;
+use cpupri::record::LEVELS;
+use cpupri::record::WORDS;
 
 // The task leaves the row of its CPU.
 pub fn leave(
@@ -17,16 +21,19 @@ pub fn leave(
     counts: &mut [u16],
     prio: &[u8],
     flags: &[u8],
+    masks: &mut [u64; LEVELS],
+    tallies: &mut [u8; LEVELS],
+    words: &mut [u64; WORDS],
+    levels: &mut [u8; CPUS],
     cpu: usize,
     task: u16,
-    record: Record,
-) -> Record
-    requires { ⌜ ((m : Machine) × Leaving m (now prio) (now flags) (now counts) (now rows) «record» task cpu) ⌝ }
-    ensures { λ r. ⌜ ((m : Machine) → Leaving m (now (prio .entry)) (now (flags .entry)) (now (counts .entry)) (now (rows .entry)) «record» task cpu → Held (dequeue task cpu m) (now (prio .entry)) (now (counts .exit)) (now (rows .exit)) r) ⌝ }
+)
+    requires { ⌜ ((m : Machine) × Leaving m (now prio) (now flags) (now counts) (now rows) (lentRecord (now masks) (now tallies) (now words) (now levels)) task cpu) ⌝ }
+    ensures { λ u. ⌜ ((m : Machine) → Leaving m (now (prio .entry)) (now (flags .entry)) (now (counts .entry)) (now (rows .entry)) (lentRecord (now (masks .entry)) (now (tallies .entry)) (now (words .entry)) (now (levels .entry))) task cpu → Held (dequeue task cpu m) (now (prio .entry)) (now (counts .exit)) (now (rows .exit)) (lentRecord (now (masks .exit)) (now (tallies .exit)) (now (words .exit)) (now (levels .exit)))) ⌝ }
 {
     runqueue::table::dequeue(rows, counts, cpu, task);
     let level = cpu_level(rows, counts, prio, flags, cpu);
-    record.set_level(cpu, level)
+    set_level(masks, tallies, words, levels, cpu, level);
 }
 
 // The task enters the row of a CPU, which is then its CPU.
@@ -35,19 +42,22 @@ pub fn enter(
     counts: &mut [u16],
     prio: &[u8],
     cpus: &mut [u8],
+    masks: &mut [u64; LEVELS],
+    tallies: &mut [u8; LEVELS],
+    words: &mut [u64; WORDS],
+    levels: &mut [u8; CPUS],
     cpu: usize,
     task: u16,
-    record: Record,
-) -> Record
-    requires { ⌜ ((m : Machine) × Entering m (now prio) (now counts) (now rows) «record» task cpu) ⌝ }
+)
+    requires { ⌜ ((m : Machine) × Entering m (now prio) (now counts) (now rows) (lentRecord (now masks) (now tallies) (now words) (now levels)) task cpu) ⌝ }
     requires { ⌜ length (now cpus) ≡ taskPlaces ⌝ }
-    ensures { λ r. ⌜ ((m : Machine) → Entering m (now (prio .entry)) (now (counts .entry)) (now (rows .entry)) «record» task cpu → Held (enqueue task cpu m) (now (prio .entry)) (now (counts .exit)) (now (rows .exit)) r) ⌝ }
-    ensures { λ r. ⌜ now (cpus .exit) ≡ set (now (cpus .entry)) task cpu ⌝ }
+    ensures { λ u. ⌜ ((m : Machine) → Entering m (now (prio .entry)) (now (counts .entry)) (now (rows .entry)) (lentRecord (now (masks .entry)) (now (tallies .entry)) (now (words .entry)) (now (levels .entry))) task cpu → Held (enqueue task cpu m) (now (prio .entry)) (now (counts .exit)) (now (rows .exit)) (lentRecord (now (masks .exit)) (now (tallies .exit)) (now (words .exit)) (now (levels .exit)))) ⌝ }
+    ensures { λ u. ⌜ now (cpus .exit) ≡ set (now (cpus .entry)) task cpu ⌝ }
 {
     runqueue::table::enqueue(rows, counts, prio, cpu, task);
     cpus[task as usize] = cpu as u8;
     let level = first_level(rows, prio, cpu);
-    record.set_level(cpu, level)
+    set_level(masks, tallies, words, levels, cpu, level);
 }
 
 // The level of a CPU: that of the task it runs or, with an empty row, its ordinary-work flag.

@@ -40,8 +40,7 @@ changeable-mask-requires : tie.Need-changeable-mask-requires
 changeable-mask-requires c κs = let l = c .before .before .before .before .before .before .before .pre .1 in (subst (λ (x : ℕ). x ≤ 64) (sym (l .cpus)) (l .formed .shape .cpus), ap length (l .state) ∙ l .formed .shape .state)
 
 returns : tie.Need-returns
-returns c =
-    λ m kind a b l.
+returns c = λ m kind a b l.
     let who = c .before .before .before .before .before .before .before .before .before .args .who in
     let e = c .before .changeable-mask .ensures m kind a b (l .cpus) (l .state) in
     let q = sym (after-refused set-affinity (event kind who a b (c .before .before .before .before .before .before .before .before .before .args .k)) m (λ z. c .if1 .taken (e ∙ z))) in
@@ -60,8 +59,7 @@ same-length : tie.Need-same-length
 same-length c = search needs
 
 returns-2 : tie.Need-returns-2
-returns-2 c =
-    λ m kind a b l.
+returns-2 c = λ m kind a b l.
     let who = c .before .before .before .before .before .before .before .before .before .before .before .args .who in
     let k = c .before .before .before .before .before .before .before .before .before .before .before .args .k in
     let e = c .before .before .before .changeable-mask .ensures m kind a b (l .cpus) (l .state) in
@@ -88,8 +86,7 @@ same-length-2 : tie.Need-same-length-2
 same-length-2 c = search needs
 
 returns-3 : tie.Need-returns-3
-returns-3 c =
-    λ m kind a b l.
+returns-3 c = λ m kind a b l.
     let who = c .before .before .before .before .before .before .before .before .before .before .before .before .before .before .args .who in
     let k = c .before .before .before .before .before .before .before .before .before .before .before .before .before .before .args .k in
     let e = c .before .before .before .before .before .before .changeable-mask .ensures m kind a b (l .cpus) (l .state) in
@@ -105,13 +102,12 @@ returns-3 c =
     }
 
 cast-leave : tie.Need-cast-leave
-cast-leave c = let g = good (c .before .before .before .before .before .before .before .before .before .before .before .before .before .before .before .before .pre .1) (c .before .before .before .before .before .before .before .before .before .before .before .before .before .before .before .before .args .who) (c .before .before .before .before .before .before .before .before .before .before .before .before .before .before .before .before .args .k) _ (c .before .before .before .before .before .before .before .before .changeable-mask .ensures (c .before .before .before .before .before .before .before .before .before .before .before .before .before .before .before .before .pre .0) 6 0 0 (c .before .before .before .before .before .before .before .before .before .before .before .before .before .before .before .before .pre .1 .cpus) (c .before .before .before .before .before .before .before .before .before .before .before .before .before .before .before .before .pre .1 .state)) (c .before .before .before .before .before .before .before .if1 .left) in omega (arith, g .task)
+cast-leave c = let g = good (c .before .before .before .before .before .before .before .before .before .before .before .before .before .before .before .before .before .before .before .before .pre .1) (c .before .before .before .before .before .before .before .before .before .before .before .before .before .before .before .before .before .before .before .before .args .who) (c .before .before .before .before .before .before .before .before .before .before .before .before .before .before .before .before .before .before .before .before .args .k) _ (c .before .before .before .before .before .before .before .before .before .before .before .before .changeable-mask .ensures (c .before .before .before .before .before .before .before .before .before .before .before .before .before .before .before .before .before .before .before .before .pre .0) 6 0 0 (c .before .before .before .before .before .before .before .before .before .before .before .before .before .before .before .before .before .before .before .before .pre .1 .cpus) (c .before .before .before .before .before .before .before .before .before .before .before .before .before .before .before .before .before .before .before .before .pre .1 .state)) (c .before .before .before .before .before .before .before .before .before .before .before .if1 .left) in omega (arith, g .task)
 
 leave-requires : tie.Need-leave-requires
-leave-requires c κs =
-    let a = c .before .before .before .before .before .before .before .before .before .before .before .before .before .before .before .before in
+leave-requires c κs = let a = c .before .before .before .before .before .before .before .before .before .before .before .before .before .before .before .before .before .before .before .before in
     let l = a .pre .1 in
-    (a .pre .0, leaving (a .pre .0) (a .args .who) (l .formed) (runner (c .before .before .before .before .before .before .before .before .before .before .before .before .before .before .before .before .pre .1) (c .before .before .before .before .before .before .before .before .before .before .before .before .before .before .before .before .args .who) (c .before .before .before .before .before .before .before .before .before .before .before .before .before .before .before .before .args .k) _ (c .before .before .before .before .before .before .before .before .changeable-mask .ensures (c .before .before .before .before .before .before .before .before .before .before .before .before .before .before .before .before .pre .0) 6 0 0 (c .before .before .before .before .before .before .before .before .before .before .before .before .before .before .before .before .pre .1 .cpus) (c .before .before .before .before .before .before .before .before .before .before .before .before .before .before .before .before .pre .1 .state)) (c .before .before .before .before .before .before .before .if1 .left) (c .before .before .before .before .before .if2 .left)) _ (ap (λ (xs : List ℕ). getD xs (a .args .who) 0) (l .cpu)) (l .prio) (l .flags) (l .placed))
+    (a .pre .0, leaving (a .pre .0) (a .args .who) (l .formed) (runner (c .before .before .before .before .before .before .before .before .before .before .before .before .before .before .before .before .before .before .before .before .pre .1) (c .before .before .before .before .before .before .before .before .before .before .before .before .before .before .before .before .before .before .before .before .args .who) (c .before .before .before .before .before .before .before .before .before .before .before .before .before .before .before .before .before .before .before .before .args .k) _ (c .before .before .before .before .before .before .before .before .before .before .before .before .changeable-mask .ensures (c .before .before .before .before .before .before .before .before .before .before .before .before .before .before .before .before .before .before .before .before .pre .0) 6 0 0 (c .before .before .before .before .before .before .before .before .before .before .before .before .before .before .before .before .before .before .before .before .pre .1 .cpus) (c .before .before .before .before .before .before .before .before .before .before .before .before .before .before .before .before .before .before .before .before .pre .1 .state)) (c .before .before .before .before .before .before .before .before .before .before .before .if1 .left) (c .before .before .before .before .before .before .before .before .before .if2 .left)) _ (ap (λ (xs : List ℕ). getD xs (a .args .who) 0) (l .cpu)) (l .prio) (l .flags) (l .placed))
 
 lowest-bit-requires : tie.Need-lowest-bit-requires
 lowest-bit-requires c κs = search needs
@@ -120,19 +116,18 @@ cast-target : tie.Need-cast-target
 cast-target c = search needs
 
 cast-enter : tie.Need-cast-enter
-cast-enter c = let g = good (c .before .before .before .before .before .before .before .before .before .before .before .before .before .before .before .before .before .before .before .before .before .before .before .before .before .pre .1) (c .before .before .before .before .before .before .before .before .before .before .before .before .before .before .before .before .before .before .before .before .before .before .before .before .before .args .who) (c .before .before .before .before .before .before .before .before .before .before .before .before .before .before .before .before .before .before .before .before .before .before .before .before .before .args .k) _ (c .before .before .before .before .before .before .before .before .before .before .before .before .before .before .before .before .before .changeable-mask .ensures (c .before .before .before .before .before .before .before .before .before .before .before .before .before .before .before .before .before .before .before .before .before .before .before .before .before .pre .0) 6 0 0 (c .before .before .before .before .before .before .before .before .before .before .before .before .before .before .before .before .before .before .before .before .before .before .before .before .before .pre .1 .cpus) (c .before .before .before .before .before .before .before .before .before .before .before .before .before .before .before .before .before .before .before .before .before .before .before .before .before .pre .1 .state)) (c .before .before .before .before .before .before .before .before .before .before .before .before .before .before .before .before .if1 .left) in omega (arith, g .task)
+cast-enter c = let g = good (c .before .before .before .before .before .before .before .before .before .before .before .before .before .before .before .before .before .before .before .before .before .before .before .before .before .before .before .before .before .before .before .before .before .pre .1) (c .before .before .before .before .before .before .before .before .before .before .before .before .before .before .before .before .before .before .before .before .before .before .before .before .before .before .before .before .before .before .before .before .before .args .who) (c .before .before .before .before .before .before .before .before .before .before .before .before .before .before .before .before .before .before .before .before .before .before .before .before .before .before .before .before .before .before .before .before .before .args .k) _ (c .before .before .before .before .before .before .before .before .before .before .before .before .before .before .before .before .before .before .before .before .before .before .before .before .before .changeable-mask .ensures (c .before .before .before .before .before .before .before .before .before .before .before .before .before .before .before .before .before .before .before .before .before .before .before .before .before .before .before .before .before .before .before .before .before .pre .0) 6 0 0 (c .before .before .before .before .before .before .before .before .before .before .before .before .before .before .before .before .before .before .before .before .before .before .before .before .before .before .before .before .before .before .before .before .before .pre .1 .cpus) (c .before .before .before .before .before .before .before .before .before .before .before .before .before .before .before .before .before .before .before .before .before .before .before .before .before .before .before .before .before .before .before .before .before .pre .1 .state)) (c .before .before .before .before .before .before .before .before .before .before .before .before .before .before .before .before .before .before .before .before .before .before .before .before .if1 .left) in omega (arith, g .task)
 
 enter-requires : tie.Need-enter-requires
-enter-requires c κs =
-    let a = c .before .before .before .before .before .before .before .before .before .before .before .before .before .before .before .before .before .before .before .before .before .before .before .before .before in
+enter-requires c κs = let a = c .before .before .before .before .before .before .before .before .before .before .before .before .before .before .before .before .before .before .before .before .before .before .before .before .before .before .before .before .before .before .before .before .before in
     let m = a .pre .0 in
     let l = a .pre .1 in
     let who = a .args .who in
-    let s = (runner (c .before .before .before .before .before .before .before .before .before .before .before .before .before .before .before .before .before .before .before .before .before .before .before .before .before .pre .1) (c .before .before .before .before .before .before .before .before .before .before .before .before .before .before .before .before .before .before .before .before .before .before .before .before .before .args .who) (c .before .before .before .before .before .before .before .before .before .before .before .before .before .before .before .before .before .before .before .before .before .before .before .before .before .args .k) _ (c .before .before .before .before .before .before .before .before .before .before .before .before .before .before .before .before .before .changeable-mask .ensures (c .before .before .before .before .before .before .before .before .before .before .before .before .before .before .before .before .before .before .before .before .before .before .before .before .before .pre .0) 6 0 0 (c .before .before .before .before .before .before .before .before .before .before .before .before .before .before .before .before .before .before .before .before .before .before .before .before .before .pre .1 .cpus) (c .before .before .before .before .before .before .before .before .before .before .before .before .before .before .before .before .before .before .before .before .before .before .before .before .before .pre .1 .state)) (c .before .before .before .before .before .before .before .before .before .before .before .before .before .before .before .before .if1 .left) (c .before .before .before .before .before .before .before .before .before .before .before .before .before .before .if2 .left)) in
+    let s = (runner (c .before .before .before .before .before .before .before .before .before .before .before .before .before .before .before .before .before .before .before .before .before .before .before .before .before .before .before .before .before .before .before .before .before .pre .1) (c .before .before .before .before .before .before .before .before .before .before .before .before .before .before .before .before .before .before .before .before .before .before .before .before .before .before .before .before .before .before .before .before .before .args .who) (c .before .before .before .before .before .before .before .before .before .before .before .before .before .before .before .before .before .before .before .before .before .before .before .before .before .before .before .before .before .before .before .before .before .args .k) _ (c .before .before .before .before .before .before .before .before .before .before .before .before .before .before .before .before .before .before .before .before .before .before .before .before .before .changeable-mask .ensures (c .before .before .before .before .before .before .before .before .before .before .before .before .before .before .before .before .before .before .before .before .before .before .before .before .before .before .before .before .before .before .before .before .before .pre .0) 6 0 0 (c .before .before .before .before .before .before .before .before .before .before .before .before .before .before .before .before .before .before .before .before .before .before .before .before .before .before .before .before .before .before .before .before .before .pre .1 .cpus) (c .before .before .before .before .before .before .before .before .before .before .before .before .before .before .before .before .before .before .before .before .before .before .before .before .before .before .before .before .before .before .before .before .before .pre .1 .state)) (c .before .before .before .before .before .before .before .before .before .before .before .before .before .before .before .before .before .before .before .before .before .before .before .before .if1 .left) (c .before .before .before .before .before .before .before .before .before .before .before .before .before .before .before .before .before .before .before .before .before .before .if2 .left)) in
     let is : getD (a .args .cpu .now) who 0 ≡ taskOf m who .cpu = ap (λ (xs : List ℕ). getD xs who 0) (l .cpu) in
-    let g = good (c .before .before .before .before .before .before .before .before .before .before .before .before .before .before .before .before .before .before .before .before .before .before .before .before .before .pre .1) (c .before .before .before .before .before .before .before .before .before .before .before .before .before .before .before .before .before .before .before .before .before .before .before .before .before .args .who) (c .before .before .before .before .before .before .before .before .before .before .before .before .before .before .before .before .before .before .before .before .before .before .before .before .before .args .k) _ (c .before .before .before .before .before .before .before .before .before .before .before .before .before .before .before .before .before .changeable-mask .ensures (c .before .before .before .before .before .before .before .before .before .before .before .before .before .before .before .before .before .before .before .before .before .before .before .before .before .pre .0) 6 0 0 (c .before .before .before .before .before .before .before .before .before .before .before .before .before .before .before .before .before .before .before .before .before .before .before .before .before .pre .1 .cpus) (c .before .before .before .before .before .before .before .before .before .before .before .before .before .before .before .before .before .before .before .before .before .before .before .before .before .pre .1 .state)) (c .before .before .before .before .before .before .before .before .before .before .before .before .before .before .before .before .if1 .left) in
-    let left = c .before .before .before .before .before .before .before .before .leave .ensures m (leaving m who (l .formed) s _ is (l .prio) (l .flags) (l .placed)) in
-    let low = c .before .before .before .lowest-bit .ensures ∙ lowest-allowed m (a .args .k) (l .formed .shape .cpus) (g .some) (g .fits) in (
+    let g = good (c .before .before .before .before .before .before .before .before .before .before .before .before .before .before .before .before .before .before .before .before .before .before .before .before .before .before .before .before .before .before .before .before .before .pre .1) (c .before .before .before .before .before .before .before .before .before .before .before .before .before .before .before .before .before .before .before .before .before .before .before .before .before .before .before .before .before .before .before .before .before .args .who) (c .before .before .before .before .before .before .before .before .before .before .before .before .before .before .before .before .before .before .before .before .before .before .before .before .before .before .before .before .before .before .before .before .before .args .k) _ (c .before .before .before .before .before .before .before .before .before .before .before .before .before .before .before .before .before .before .before .before .before .before .before .before .before .changeable-mask .ensures (c .before .before .before .before .before .before .before .before .before .before .before .before .before .before .before .before .before .before .before .before .before .before .before .before .before .before .before .before .before .before .before .before .before .pre .0) 6 0 0 (c .before .before .before .before .before .before .before .before .before .before .before .before .before .before .before .before .before .before .before .before .before .before .before .before .before .before .before .before .before .before .before .before .before .pre .1 .cpus) (c .before .before .before .before .before .before .before .before .before .before .before .before .before .before .before .before .before .before .before .before .before .before .before .before .before .before .before .before .before .before .before .before .before .pre .1 .state)) (c .before .before .before .before .before .before .before .before .before .before .before .before .before .before .before .before .before .before .before .before .before .before .before .before .if1 .left) in
+    let left = c .before .before .before .before .before .before .before .before .before .before .before .before .leave .ensures m (leaving m who (l .formed) s _ is (l .prio) (l .flags) (l .placed)) in
+    let low = c .before .before .before .before .before .before .before .lowest-bit .ensures ∙ lowest-allowed m (a .args .k) (l .formed .shape .cpus) (g .some) (g .fits) in (
       (dequeue who (taskOf m who .cpu) m, entering-mask m who (l .formed) s _ is left (a .args .k) _ (g .some) (g .fits) low),
       ap length (l .cpu) ∙ l .formed .shape .cpu,
     )
@@ -150,20 +145,19 @@ same-length-6 : tie.Need-same-length-6
 same-length-6 c = search needs
 
 returns-4 : tie.Need-returns-4
-returns-4 c =
-    λ m kind a b l.
-    let who = c .before .before .before .before .before .before .before .before .before .before .before .before .before .before .before .before .before .before .before .before .before .before .before .before .before .before .before .before .before .before .before .before .args .who in
-    let k = c .before .before .before .before .before .before .before .before .before .before .before .before .before .before .before .before .before .before .before .before .before .before .before .before .before .before .before .before .before .before .before .before .args .k in
-    let e = c .before .before .before .before .before .before .before .before .before .before .before .before .before .before .before .before .before .before .before .before .before .before .before .before .changeable-mask .ensures m kind a b (l .cpus) (l .state) in
-    let z = c .before .before .before .before .before .before .before .before .before .before .before .before .before .before .before .before .before .before .before .before .before .before .before .if1 .left in
+returns-4 c = λ m kind a b l.
+    let who = c .before .before .before .before .before .before .before .before .before .before .before .before .before .before .before .before .before .before .before .before .before .before .before .before .before .before .before .before .before .before .before .before .before .before .before .before .before .before .before .before .args .who in
+    let k = c .before .before .before .before .before .before .before .before .before .before .before .before .before .before .before .before .before .before .before .before .before .before .before .before .before .before .before .before .before .before .before .before .before .before .before .before .before .before .before .before .args .k in
+    let e = c .before .before .before .before .before .before .before .before .before .before .before .before .before .before .before .before .before .before .before .before .before .before .before .before .before .before .before .before .before .before .before .before .changeable-mask .ensures m kind a b (l .cpus) (l .state) in
+    let z = c .before .before .before .before .before .before .before .before .before .before .before .before .before .before .before .before .before .before .before .before .before .before .before .before .before .before .before .before .before .before .before .if1 .left in
     let done = after-done set-affinity (event kind who a b k) m (sym e ∙ z) in
-    let s = runner l who k _ e z (c .before .before .before .before .before .before .before .before .before .before .before .before .before .before .before .before .before .before .before .before .before .if2 .left) in
+    let s = runner l who k _ e z (c .before .before .before .before .before .before .before .before .before .before .before .before .before .before .before .before .before .before .before .before .before .before .before .before .before .before .before .before .before .if2 .left) in
     let g = good l who k _ e z in
-    let is : getD (c .before .before .before .before .before .before .before .before .before .before .before .before .before .before .before .before .before .before .before .before .before .before .before .before .before .before .before .before .before .before .before .before .args .cpu .now) who 0 ≡ taskOf m who .cpu = ap (λ (xs : List ℕ). getD xs who 0) (l .cpu) in
-    let target = c .before .before .before .before .before .before .before .before .before .before .lowest-bit .result in
-    let low = c .before .before .before .before .before .before .before .before .before .before .lowest-bit .ensures ∙ lowest-allowed m k (l .formed .shape .cpus) (g .some) (g .fits) in
-    let q = sym (done ∙ reaffined-moved m who k (s .1) (ap (λ (xs : List ℕ). bit k (getD xs who 0)) (sym (l .cpu)) ∙ sym (c .before .before .before .before .before .before .before .before .before .before .before .before .before .before .before .before .before .before .before .test-bit .ensures) ∙ c .before .before .before .before .before .before .before .before .before .before .before .before .before .before .before .before .before .before .if3 .left)) in
-    let left = c .before .before .before .before .before .before .before .before .before .before .before .before .before .before .before .leave .ensures m (leaving m who (l .formed) s _ is (l .prio) (l .flags) (l .placed)) in
+    let is : getD (c .before .before .before .before .before .before .before .before .before .before .before .before .before .before .before .before .before .before .before .before .before .before .before .before .before .before .before .before .before .before .before .before .before .before .before .before .before .before .before .before .args .cpu .now) who 0 ≡ taskOf m who .cpu = ap (λ (xs : List ℕ). getD xs who 0) (l .cpu) in
+    let target = c .before .before .before .before .before .before .before .before .before .before .before .before .before .before .lowest-bit .result in
+    let low = c .before .before .before .before .before .before .before .before .before .before .before .before .before .before .lowest-bit .ensures ∙ lowest-allowed m k (l .formed .shape .cpus) (g .some) (g .fits) in
+    let q = sym (done ∙ reaffined-moved m who k (s .1) (ap (λ (xs : List ℕ). bit k (getD xs who 0)) (sym (l .cpu)) ∙ sym (c .before .before .before .before .before .before .before .before .before .before .before .before .before .before .before .before .before .before .before .before .before .before .before .before .before .before .before .test-bit .ensures) ∙ c .before .before .before .before .before .before .before .before .before .before .before .before .before .before .before .before .before .before .before .before .before .before .before .before .before .before .if3 .left)) in
+    let left = c .before .before .before .before .before .before .before .before .before .before .before .before .before .before .before .before .before .before .before .leave .ensures m (leaving m who (l .formed) s _ is (l .prio) (l .flags) (l .placed)) in
     let entered = c .before .before .before .before .before .before .enter .ensures .0 (dequeue who (taskOf m who .cpu) m) (entering-mask m who (l .formed) s _ is left k target (g .some) (g .fits) low) in
     record {
       answer = sym z ∙ e;

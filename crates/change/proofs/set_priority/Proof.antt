@@ -31,8 +31,7 @@ changeable-priority-requires : tie.Need-changeable-priority-requires
 changeable-priority-requires c κs = let l = c .before .before .before .before .before .before .pre .1 in ap length (l .state) ∙ l .formed .shape .state
 
 returns : tie.Need-returns
-returns c =
-    λ m kind a k l.
+returns c = λ m kind a k l.
     let who = c .before .before .before .before .before .before .before .before .args .who in
     let e = c .before .changeable-priority .ensures m kind a k (l .state) in
     let q = sym (after-refused set-priority (event kind who a (c .before .before .before .before .before .before .before .before .args .b) k) m (λ z. c .if1 .taken (e ∙ z))) in
@@ -51,8 +50,7 @@ same-length : tie.Need-same-length
 same-length c = search needs
 
 returns-2 : tie.Need-returns-2
-returns-2 c =
-    λ m kind a k l.
+returns-2 c = λ m kind a k l.
     let who = c .before .before .before .before .before .before .before .before .before .before .args .who in
     let b = c .before .before .before .before .before .before .before .before .before .before .args .b in
     let e = c .before .before .before .changeable-priority .ensures m kind a k (l .state) in
@@ -71,8 +69,7 @@ slice-read-if3 : tie.Need-slice-read-if3
 slice-read-if3 c = let g = good (c .before .before .before .before .before .before .before .before .before .before .before .pre .1) (c .before .before .before .before .before .before .before .before .before .before .before .args .who) (c .before .before .before .before .before .before .before .before .before .before .before .args .b) _ (c .before .before .before .before .changeable-priority .ensures (c .before .before .before .before .before .before .before .before .before .before .before .pre .0) 5 0 0 (c .before .before .before .before .before .before .before .before .before .before .before .pre .1 .state)) (c .before .before .before .if1 .left) in let l = c .before .before .before .before .before .before .before .before .before .before .before .pre .1 in omega (arith, g .task, ap length (l .prio), l .formed .shape .prio)
 
 returns-3 : tie.Need-returns-3
-returns-3 c =
-    λ m kind a k l.
+returns-3 c = λ m kind a k l.
     let who = c .before .before .before .before .before .before .before .before .before .before .before .before .args .who in
     let b = c .before .before .before .before .before .before .before .before .before .before .before .before .args .b in
     let e = c .before .before .before .before .before .changeable-priority .ensures m kind a k (l .state) in
@@ -94,30 +91,28 @@ cast-home : tie.Need-cast-home
 cast-home c = omega (arith, c .slice-known6 .given (c .before .before .before .before .before .before .before .before .before .before .before .before .before .args .who))
 
 cast-leave : tie.Need-cast-leave
-cast-leave c = let g = good (c .before .before .before .before .before .before .before .before .before .before .before .before .before .before .before .before .pre .1) (c .before .before .before .before .before .before .before .before .before .before .before .before .before .before .before .before .args .who) (c .before .before .before .before .before .before .before .before .before .before .before .before .before .before .before .before .args .b) _ (c .before .before .before .before .before .before .before .before .before .changeable-priority .ensures (c .before .before .before .before .before .before .before .before .before .before .before .before .before .before .before .before .pre .0) 5 0 0 (c .before .before .before .before .before .before .before .before .before .before .before .before .before .before .before .before .pre .1 .state)) (c .before .before .before .before .before .before .before .before .if1 .left) in omega (arith, g .task)
+cast-leave c = let g = good (c .before .before .before .before .before .before .before .before .before .before .before .before .before .before .before .before .before .before .before .before .pre .1) (c .before .before .before .before .before .before .before .before .before .before .before .before .before .before .before .before .before .before .before .before .args .who) (c .before .before .before .before .before .before .before .before .before .before .before .before .before .before .before .before .before .before .before .before .args .b) _ (c .before .before .before .before .before .before .before .before .before .before .before .before .before .changeable-priority .ensures (c .before .before .before .before .before .before .before .before .before .before .before .before .before .before .before .before .before .before .before .before .pre .0) 5 0 0 (c .before .before .before .before .before .before .before .before .before .before .before .before .before .before .before .before .before .before .before .before .pre .1 .state)) (c .before .before .before .before .before .before .before .before .before .before .before .before .if1 .left) in omega (arith, g .task)
 
 leave-requires : tie.Need-leave-requires
-leave-requires c κs =
-    let a = c .before .before .before .before .before .before .before .before .before .before .before .before .before .before .before .before in
+leave-requires c κs = let a = c .before .before .before .before .before .before .before .before .before .before .before .before .before .before .before .before .before .before .before .before in
     let l = a .pre .1 in
-    (a .pre .0, leaving (a .pre .0) (a .args .who) (l .formed) (runner (c .before .before .before .before .before .before .before .before .before .before .before .before .before .before .before .before .pre .1) (c .before .before .before .before .before .before .before .before .before .before .before .before .before .before .before .before .args .who) (c .before .before .before .before .before .before .before .before .before .before .before .before .before .before .before .before .args .b) _ (c .before .before .before .before .before .before .before .before .before .changeable-priority .ensures (c .before .before .before .before .before .before .before .before .before .before .before .before .before .before .before .before .pre .0) 5 0 0 (c .before .before .before .before .before .before .before .before .before .before .before .before .before .before .before .before .pre .1 .state)) (c .before .before .before .before .before .before .before .before .if1 .left) (c .before .before .before .before .before .before .if2 .left)) _ (ap (λ (xs : List ℕ). getD xs (a .args .who) 0) (l .cpu)) (l .prio) (l .flags) (l .placed))
+    (a .pre .0, leaving (a .pre .0) (a .args .who) (l .formed) (runner (c .before .before .before .before .before .before .before .before .before .before .before .before .before .before .before .before .before .before .before .before .pre .1) (c .before .before .before .before .before .before .before .before .before .before .before .before .before .before .before .before .before .before .before .before .args .who) (c .before .before .before .before .before .before .before .before .before .before .before .before .before .before .before .before .before .before .before .before .args .b) _ (c .before .before .before .before .before .before .before .before .before .before .before .before .before .changeable-priority .ensures (c .before .before .before .before .before .before .before .before .before .before .before .before .before .before .before .before .before .before .before .before .pre .0) 5 0 0 (c .before .before .before .before .before .before .before .before .before .before .before .before .before .before .before .before .before .before .before .before .pre .1 .state)) (c .before .before .before .before .before .before .before .before .before .before .before .before .if1 .left) (c .before .before .before .before .before .before .before .before .before .before .if2 .left)) _ (ap (λ (xs : List ℕ). getD xs (a .args .who) 0) (l .cpu)) (l .prio) (l .flags) (l .placed))
 
 slice-write-prio-2 : tie.Need-slice-write-prio-2
-slice-write-prio-2 c = let g = good (c .before .before .before .before .before .before .before .before .before .before .before .before .before .before .before .before .before .before .before .before .before .pre .1) (c .before .before .before .before .before .before .before .before .before .before .before .before .before .before .before .before .before .before .before .before .before .args .who) (c .before .before .before .before .before .before .before .before .before .before .before .before .before .before .before .before .before .before .before .before .before .args .b) _ (c .before .before .before .before .before .before .before .before .before .before .before .before .before .before .changeable-priority .ensures (c .before .before .before .before .before .before .before .before .before .before .before .before .before .before .before .before .before .before .before .before .before .pre .0) 5 0 0 (c .before .before .before .before .before .before .before .before .before .before .before .before .before .before .before .before .before .before .before .before .before .pre .1 .state)) (c .before .before .before .before .before .before .before .before .before .before .before .before .before .if1 .left) in let l = c .before .before .before .before .before .before .before .before .before .before .before .before .before .before .before .before .before .before .before .before .before .pre .1 in omega (arith, g .task, ap length (l .prio), l .formed .shape .prio)
+slice-write-prio-2 c = let g = good (c .before .before .before .before .before .before .before .before .before .before .before .before .before .before .before .before .before .before .before .before .before .before .before .before .before .pre .1) (c .before .before .before .before .before .before .before .before .before .before .before .before .before .before .before .before .before .before .before .before .before .before .before .before .before .args .who) (c .before .before .before .before .before .before .before .before .before .before .before .before .before .before .before .before .before .before .before .before .before .before .before .before .before .args .b) _ (c .before .before .before .before .before .before .before .before .before .before .before .before .before .before .before .before .before .before .changeable-priority .ensures (c .before .before .before .before .before .before .before .before .before .before .before .before .before .before .before .before .before .before .before .before .before .before .before .before .before .pre .0) 5 0 0 (c .before .before .before .before .before .before .before .before .before .before .before .before .before .before .before .before .before .before .before .before .before .before .before .before .before .pre .1 .state)) (c .before .before .before .before .before .before .before .before .before .before .before .before .before .before .before .before .before .if1 .left) in let l = c .before .before .before .before .before .before .before .before .before .before .before .before .before .before .before .before .before .before .before .before .before .before .before .before .before .pre .1 in omega (arith, g .task, ap length (l .prio), l .formed .shape .prio)
 
 cast-enter : tie.Need-cast-enter
-cast-enter c = let g = good (c .before .before .before .before .before .before .before .before .before .before .before .before .before .before .before .before .before .before .before .before .before .before .before .before .before .pre .1) (c .before .before .before .before .before .before .before .before .before .before .before .before .before .before .before .before .before .before .before .before .before .before .before .before .before .args .who) (c .before .before .before .before .before .before .before .before .before .before .before .before .before .before .before .before .before .before .before .before .before .before .before .before .before .args .b) _ (c .before .before .before .before .before .before .before .before .before .before .before .before .before .before .before .before .before .before .changeable-priority .ensures (c .before .before .before .before .before .before .before .before .before .before .before .before .before .before .before .before .before .before .before .before .before .before .before .before .before .pre .0) 5 0 0 (c .before .before .before .before .before .before .before .before .before .before .before .before .before .before .before .before .before .before .before .before .before .before .before .before .before .pre .1 .state)) (c .before .before .before .before .before .before .before .before .before .before .before .before .before .before .before .before .before .if1 .left) in omega (arith, g .task)
+cast-enter c = let g = good (c .before .before .before .before .before .before .before .before .before .before .before .before .before .before .before .before .before .before .before .before .before .before .before .before .before .before .before .before .before .before .before .before .before .pre .1) (c .before .before .before .before .before .before .before .before .before .before .before .before .before .before .before .before .before .before .before .before .before .before .before .before .before .before .before .before .before .before .before .before .before .args .who) (c .before .before .before .before .before .before .before .before .before .before .before .before .before .before .before .before .before .before .before .before .before .before .before .before .before .before .before .before .before .before .before .before .before .args .b) _ (c .before .before .before .before .before .before .before .before .before .before .before .before .before .before .before .before .before .before .before .before .before .before .before .before .before .before .changeable-priority .ensures (c .before .before .before .before .before .before .before .before .before .before .before .before .before .before .before .before .before .before .before .before .before .before .before .before .before .before .before .before .before .before .before .before .before .pre .0) 5 0 0 (c .before .before .before .before .before .before .before .before .before .before .before .before .before .before .before .before .before .before .before .before .before .before .before .before .before .before .before .before .before .before .before .before .before .pre .1 .state)) (c .before .before .before .before .before .before .before .before .before .before .before .before .before .before .before .before .before .before .before .before .before .before .before .before .before .if1 .left) in omega (arith, g .task)
 
 enter-requires : tie.Need-enter-requires
-enter-requires c κs =
-    let a = c .before .before .before .before .before .before .before .before .before .before .before .before .before .before .before .before .before .before .before .before .before .before .before .before .before in
+enter-requires c κs = let a = c .before .before .before .before .before .before .before .before .before .before .before .before .before .before .before .before .before .before .before .before .before .before .before .before .before .before .before .before .before .before .before .before .before in
     let m = a .pre .0 in
     let l = a .pre .1 in
     let who = a .args .who in
-    let s = (runner (c .before .before .before .before .before .before .before .before .before .before .before .before .before .before .before .before .before .before .before .before .before .before .before .before .before .pre .1) (c .before .before .before .before .before .before .before .before .before .before .before .before .before .before .before .before .before .before .before .before .before .before .before .before .before .args .who) (c .before .before .before .before .before .before .before .before .before .before .before .before .before .before .before .before .before .before .before .before .before .before .before .before .before .args .b) _ (c .before .before .before .before .before .before .before .before .before .before .before .before .before .before .before .before .before .before .changeable-priority .ensures (c .before .before .before .before .before .before .before .before .before .before .before .before .before .before .before .before .before .before .before .before .before .before .before .before .before .pre .0) 5 0 0 (c .before .before .before .before .before .before .before .before .before .before .before .before .before .before .before .before .before .before .before .before .before .before .before .before .before .pre .1 .state)) (c .before .before .before .before .before .before .before .before .before .before .before .before .before .before .before .before .before .if1 .left) (c .before .before .before .before .before .before .before .before .before .before .before .before .before .before .before .if2 .left)) in
+    let s = (runner (c .before .before .before .before .before .before .before .before .before .before .before .before .before .before .before .before .before .before .before .before .before .before .before .before .before .before .before .before .before .before .before .before .before .pre .1) (c .before .before .before .before .before .before .before .before .before .before .before .before .before .before .before .before .before .before .before .before .before .before .before .before .before .before .before .before .before .before .before .before .before .args .who) (c .before .before .before .before .before .before .before .before .before .before .before .before .before .before .before .before .before .before .before .before .before .before .before .before .before .before .before .before .before .before .before .before .before .args .b) _ (c .before .before .before .before .before .before .before .before .before .before .before .before .before .before .before .before .before .before .before .before .before .before .before .before .before .before .changeable-priority .ensures (c .before .before .before .before .before .before .before .before .before .before .before .before .before .before .before .before .before .before .before .before .before .before .before .before .before .before .before .before .before .before .before .before .before .pre .0) 5 0 0 (c .before .before .before .before .before .before .before .before .before .before .before .before .before .before .before .before .before .before .before .before .before .before .before .before .before .before .before .before .before .before .before .before .before .pre .1 .state)) (c .before .before .before .before .before .before .before .before .before .before .before .before .before .before .before .before .before .before .before .before .before .before .before .before .before .if1 .left) (c .before .before .before .before .before .before .before .before .before .before .before .before .before .before .before .before .before .before .before .before .before .before .before .if2 .left)) in
     let is : getD (a .args .cpu .now) who 0 ≡ taskOf m who .cpu = ap (λ (xs : List ℕ). getD xs who 0) (l .cpu) in
-    let g = good (c .before .before .before .before .before .before .before .before .before .before .before .before .before .before .before .before .before .before .before .before .before .before .before .before .before .pre .1) (c .before .before .before .before .before .before .before .before .before .before .before .before .before .before .before .before .before .before .before .before .before .before .before .before .before .args .who) (c .before .before .before .before .before .before .before .before .before .before .before .before .before .before .before .before .before .before .before .before .before .before .before .before .before .args .b) _ (c .before .before .before .before .before .before .before .before .before .before .before .before .before .before .before .before .before .before .changeable-priority .ensures (c .before .before .before .before .before .before .before .before .before .before .before .before .before .before .before .before .before .before .before .before .before .before .before .before .before .pre .0) 5 0 0 (c .before .before .before .before .before .before .before .before .before .before .before .before .before .before .before .before .before .before .before .before .before .before .before .before .before .pre .1 .state)) (c .before .before .before .before .before .before .before .before .before .before .before .before .before .before .before .before .before .if1 .left) in
-    let left = c .before .before .before .before .before .before .before .before .leave .ensures m (leaving m who (l .formed) s _ is (l .prio) (l .flags) (l .placed)) in (
+    let g = good (c .before .before .before .before .before .before .before .before .before .before .before .before .before .before .before .before .before .before .before .before .before .before .before .before .before .before .before .before .before .before .before .before .before .pre .1) (c .before .before .before .before .before .before .before .before .before .before .before .before .before .before .before .before .before .before .before .before .before .before .before .before .before .before .before .before .before .before .before .before .before .args .who) (c .before .before .before .before .before .before .before .before .before .before .before .before .before .before .before .before .before .before .before .before .before .before .before .before .before .before .before .before .before .before .before .before .before .args .b) _ (c .before .before .before .before .before .before .before .before .before .before .before .before .before .before .before .before .before .before .before .before .before .before .before .before .before .before .changeable-priority .ensures (c .before .before .before .before .before .before .before .before .before .before .before .before .before .before .before .before .before .before .before .before .before .before .before .before .before .before .before .before .before .before .before .before .before .pre .0) 5 0 0 (c .before .before .before .before .before .before .before .before .before .before .before .before .before .before .before .before .before .before .before .before .before .before .before .before .before .before .before .before .before .before .before .before .before .pre .1 .state)) (c .before .before .before .before .before .before .before .before .before .before .before .before .before .before .before .before .before .before .before .before .before .before .before .before .before .if1 .left) in
+    let left = c .before .before .before .before .before .before .before .before .before .before .before .before .leave .ensures m (leaving m who (l .formed) s _ is (l .prio) (l .flags) (l .placed)) in (
       (store Column.prio who (a .args .b) (dequeue who (taskOf m who .cpu) m), entering-prio m who (l .formed) s _ is left (a .args .b) (g .prio)),
       ap length (l .cpu) ∙ l .formed .shape .cpu,
     )
@@ -135,18 +130,17 @@ same-length-5 : tie.Need-same-length-5
 same-length-5 c = search needs
 
 returns-4 : tie.Need-returns-4
-returns-4 c =
-    λ m kind a k l.
-    let who = c .before .before .before .before .before .before .before .before .before .before .before .before .before .before .before .before .before .before .before .before .before .before .before .before .before .before .before .before .before .before .before .before .args .who in
-    let b = c .before .before .before .before .before .before .before .before .before .before .before .before .before .before .before .before .before .before .before .before .before .before .before .before .before .before .before .before .before .before .before .before .args .b in
-    let e = c .before .before .before .before .before .before .before .before .before .before .before .before .before .before .before .before .before .before .before .before .before .before .before .before .before .changeable-priority .ensures m kind a k (l .state) in
-    let z = c .before .before .before .before .before .before .before .before .before .before .before .before .before .before .before .before .before .before .before .before .before .before .before .before .if1 .left in
+returns-4 c = λ m kind a k l.
+    let who = c .before .before .before .before .before .before .before .before .before .before .before .before .before .before .before .before .before .before .before .before .before .before .before .before .before .before .before .before .before .before .before .before .before .before .before .before .before .before .before .before .args .who in
+    let b = c .before .before .before .before .before .before .before .before .before .before .before .before .before .before .before .before .before .before .before .before .before .before .before .before .before .before .before .before .before .before .before .before .before .before .before .before .before .before .before .before .args .b in
+    let e = c .before .before .before .before .before .before .before .before .before .before .before .before .before .before .before .before .before .before .before .before .before .before .before .before .before .before .before .before .before .before .before .before .before .changeable-priority .ensures m kind a k (l .state) in
+    let z = c .before .before .before .before .before .before .before .before .before .before .before .before .before .before .before .before .before .before .before .before .before .before .before .before .before .before .before .before .before .before .before .before .if1 .left in
     let done = after-done set-priority (event kind who a b k) m (sym e ∙ z) in
-    let s = runner l who b _ e z (c .before .before .before .before .before .before .before .before .before .before .before .before .before .before .before .before .before .before .before .before .before .before .if2 .left) in
+    let s = runner l who b _ e z (c .before .before .before .before .before .before .before .before .before .before .before .before .before .before .before .before .before .before .before .before .before .before .before .before .before .before .before .before .before .before .if2 .left) in
     let hi = good l who b _ e z .prio in
-    let is : getD (c .before .before .before .before .before .before .before .before .before .before .before .before .before .before .before .before .before .before .before .before .before .before .before .before .before .before .before .before .before .before .before .before .args .cpu .now) who 0 ≡ taskOf m who .cpu = ap (λ (xs : List ℕ). getD xs who 0) (l .cpu) in
-    let q = sym (done ∙ reprioritised-moved m who b (s .1) (λ p. c .before .before .before .before .before .before .before .before .before .before .before .before .before .before .before .before .before .before .before .before .if3 .left (ap (λ (xs : List ℕ). getD xs who 0) (l .prio) ∙ p))) in
-    let left = c .before .before .before .before .before .before .before .before .before .before .before .before .before .before .before .leave .ensures m (leaving m who (l .formed) s _ is (l .prio) (l .flags) (l .placed)) in
+    let is : getD (c .before .before .before .before .before .before .before .before .before .before .before .before .before .before .before .before .before .before .before .before .before .before .before .before .before .before .before .before .before .before .before .before .before .before .before .before .before .before .before .before .args .cpu .now) who 0 ≡ taskOf m who .cpu = ap (λ (xs : List ℕ). getD xs who 0) (l .cpu) in
+    let q = sym (done ∙ reprioritised-moved m who b (s .1) (λ p. c .before .before .before .before .before .before .before .before .before .before .before .before .before .before .before .before .before .before .before .before .before .before .before .before .before .before .before .before .if3 .left (ap (λ (xs : List ℕ). getD xs who 0) (l .prio) ∙ p))) in
+    let left = c .before .before .before .before .before .before .before .before .before .before .before .before .before .before .before .before .before .before .before .leave .ensures m (leaving m who (l .formed) s _ is (l .prio) (l .flags) (l .placed)) in
     let entered = c .before .before .before .before .before .before .enter .ensures .0 (store Column.prio who b (dequeue who (taskOf m who .cpu) m)) (entering-prio m who (l .formed) s _ is left b hi) in
     record {
       answer = sym z ∙ e;

@@ -15,16 +15,16 @@ remove-requires : tie.Need-remove-requires
 remove-requires c κs = (c .before .before .before .before .before .before .before .before .before .before .before .before .before .before .before .before .pre .0, lent-remove (c .before .before .before .before .before .before .before .before .before .before .before .before .before .before .before .before .pre .1))
 
 wake-requires : tie.Need-wake-requires
-wake-requires c κs = (c .before .before .before .before .before .before .before .before .before .before .before .before .before .before .before .before .pre .0, lent-wake (c .before .before .before .before .before .before .before .before .before .before .before .before .before .before .before .before .pre .1))
+wake-requires c κs = (c .before .before .before .before .before .before .before .before .before .before .before .before .before .before .before .before .before .before .before .before .pre .0, lent-wake (c .before .before .before .before .before .before .before .before .before .before .before .before .before .before .before .before .before .before .before .before .pre .1))
 
 sleep-requires : tie.Need-sleep-requires
-sleep-requires c κs = (c .before .before .before .before .before .before .before .before .before .before .before .before .before .before .before .before .pre .0, lent-sleep (c .before .before .before .before .before .before .before .before .before .before .before .before .before .before .before .before .pre .1))
+sleep-requires c κs = (c .before .before .before .before .before .before .before .before .before .before .before .before .before .before .before .before .before .before .before .before .pre .0, lent-sleep (c .before .before .before .before .before .before .before .before .before .before .before .before .before .before .before .before .before .before .before .before .pre .1))
 
 set-priority-requires : tie.Need-set-priority-requires
-set-priority-requires c κs = (c .before .before .before .before .before .before .before .before .before .before .before .before .before .before .before .before .pre .0, lent-priority (c .before .before .before .before .before .before .before .before .before .before .before .before .before .before .before .before .pre .1))
+set-priority-requires c κs = (c .before .before .before .before .before .before .before .before .before .before .before .before .before .before .before .before .before .before .before .before .pre .0, lent-priority (c .before .before .before .before .before .before .before .before .before .before .before .before .before .before .before .before .before .before .before .before .pre .1))
 
 set-affinity-requires : tie.Need-set-affinity-requires
-set-affinity-requires c κs = (c .before .before .before .before .before .before .before .before .before .before .before .before .before .before .before .before .before .pre .0, lent-affinity (c .before .before .before .before .before .before .before .before .before .before .before .before .before .before .before .before .before .pre .1))
+set-affinity-requires c κs = (c .before .before .before .before .before .before .before .before .before .before .before .before .before .before .before .before .before .before .before .before .before .pre .0, lent-affinity (c .before .before .before .before .before .before .before .before .before .before .before .before .before .before .before .before .before .before .before .before .before .pre .1))
 
 tick-requires : tie.Need-tick-requires
 tick-requires c κs = (c .before .before .before .before .before .before .before .before .before .before .before .before .before .before .before .pre .0, lent-tick (c .before .before .before .before .before .before .before .before .before .before .before .before .before .before .before .pre .1))
@@ -33,7 +33,7 @@ yield-cpu-requires : tie.Need-yield-cpu-requires
 yield-cpu-requires c κs = (c .before .before .before .before .before .before .before .before .before .before .before .before .before .pre .0, lent-yield (c .before .before .before .before .before .before .before .before .before .before .before .before .before .pre .1))
 
 set-ordinary-requires : tie.Need-set-ordinary-requires
-set-ordinary-requires c κs = (c .before .before .before .before .before .before .before .before .before .before .before .before .pre .0, lent-ordinary (c .before .before .before .before .before .before .before .before .before .before .before .before .pre .1))
+set-ordinary-requires c κs = (c .before .before .before .before .before .before .before .before .before .before .before .before .before .before .before .before .pre .0, lent-ordinary (c .before .before .before .before .before .before .before .before .before .before .before .before .before .before .before .before .pre .1))
 
 same-length : tie.Need-same-length
 same-length c = c .before .before .before .before .before .before .before .before .before .before .before .before .add .kept .1 .0
@@ -104,8 +104,8 @@ same-length-18 c = c .before .before .before .before .before .before .before .be
 returns-3 : tie.Need-returns-3
 returns-3 c =
     λ m l.
-    let x = c .before .before .before .before .before .before .before .before .before .before .before .before .before .before .before .before .before .before .before .before .before .before .before .before .before .args in
-    answered-wake l (event (x .kind) (x .who) (x .a) (x .b) (x .k)) (ap kindOf (c .before .before .before .before .before .before .before .before .before .before .before .before .before .before .before .match .keys3)) (c .before .before .before .before .before .before .before .before .wake .ensures m (x .kind) (x .a) (x .b) (x .k) (lent-wake l))
+    let x = c .before .before .before .before .before .before .before .before .before .before .before .before .before .before .before .before .before .before .before .before .before .before .before .before .before .before .before .before .before .args in
+    answered-wake l (event (x .kind) (x .who) (x .a) (x .b) (x .k)) (ap kindOf (c .before .before .before .before .before .before .before .before .before .before .before .before .before .before .before .before .before .before .before .match .keys3)) (c .before .before .before .before .before .before .before .before .wake .ensures m (x .kind) (x .a) (x .b) (x .k) (lent-wake l))
 
 same-length-19 : tie.Need-same-length-19
 same-length-19 c = c .before .before .before .before .before .before .sleep .kept .0
@@ -128,8 +128,8 @@ same-length-24 c = search needs
 returns-4 : tie.Need-returns-4
 returns-4 c =
     λ m l.
-    let x = c .before .before .before .before .before .before .before .before .before .before .before .before .before .before .before .before .before .before .before .before .before .before .before .args in
-    answered-sleep l (event (x .kind) (x .who) (x .a) (x .b) (x .k)) (ap kindOf (c .before .before .before .before .before .before .before .before .before .before .before .before .before .match .keys4)) (c .before .before .before .before .before .before .sleep .ensures m (x .kind) (x .a) (x .b) (x .k) (lent-sleep l))
+    let x = c .before .before .before .before .before .before .before .before .before .before .before .before .before .before .before .before .before .before .before .before .before .before .before .before .before .before .before .args in
+    answered-sleep l (event (x .kind) (x .who) (x .a) (x .b) (x .k)) (ap kindOf (c .before .before .before .before .before .before .before .before .before .before .before .before .before .before .before .before .before .match .keys4)) (c .before .before .before .before .before .before .sleep .ensures m (x .kind) (x .a) (x .b) (x .k) (lent-sleep l))
 
 same-length-25 : tie.Need-same-length-25
 same-length-25 c = search needs
@@ -152,8 +152,8 @@ same-length-30 c = search needs
 returns-5 : tie.Need-returns-5
 returns-5 c =
     λ m l.
-    let x = c .before .before .before .before .before .before .before .before .before .before .before .before .before .before .before .before .before .before .before .before .before .before .before .before .before .args in
-    answered-priority l (event (x .kind) (x .who) (x .a) (x .b) (x .k)) (ap kindOf (c .before .before .before .before .before .before .before .before .before .before .before .before .before .before .before .match .keys5)) (c .before .before .before .before .before .before .before .before .set-priority .ensures m (x .kind) (x .a) (x .k) (lent-priority l))
+    let x = c .before .before .before .before .before .before .before .before .before .before .before .before .before .before .before .before .before .before .before .before .before .before .before .before .before .before .before .before .before .args in
+    answered-priority l (event (x .kind) (x .who) (x .a) (x .b) (x .k)) (ap kindOf (c .before .before .before .before .before .before .before .before .before .before .before .before .before .before .before .before .before .before .before .match .keys5)) (c .before .before .before .before .before .before .before .before .set-priority .ensures m (x .kind) (x .a) (x .k) (lent-priority l))
 
 same-length-31 : tie.Need-same-length-31
 same-length-31 c = search needs
@@ -179,8 +179,8 @@ same-length-37 c = search needs
 returns-6 : tie.Need-returns-6
 returns-6 c =
     λ m l.
-    let x = c .before .before .before .before .before .before .before .before .before .before .before .before .before .before .before .before .before .before .before .before .before .before .before .before .before .before .args in
-    answered-affinity l (event (x .kind) (x .who) (x .a) (x .b) (x .k)) (ap kindOf (c .before .before .before .before .before .before .before .before .before .before .before .before .before .before .before .before .match .keys6)) (c .before .before .before .before .before .before .before .before .set-affinity .ensures m (x .kind) (x .a) (x .b) (lent-affinity l))
+    let x = c .before .before .before .before .before .before .before .before .before .before .before .before .before .before .before .before .before .before .before .before .before .before .before .before .before .before .before .before .before .before .args in
+    answered-affinity l (event (x .kind) (x .who) (x .a) (x .b) (x .k)) (ap kindOf (c .before .before .before .before .before .before .before .before .before .before .before .before .before .before .before .before .before .before .before .before .match .keys6)) (c .before .before .before .before .before .before .before .before .set-affinity .ensures m (x .kind) (x .a) (x .b) (lent-affinity l))
 
 same-length-38 : tie.Need-same-length-38
 same-length-38 c = search needs
@@ -227,8 +227,8 @@ same-length-47 c = c .before .before .set-ordinary .kept .1 .0
 returns-9 : tie.Need-returns-9
 returns-9 c =
     λ m l.
-    let x = c .before .before .before .before .before .before .before .before .before .before .before .before .before .before .before .args in
-    answered-ordinary l (event (x .kind) (x .who) (x .a) (x .b) (x .k)) (ap kindOf (c .before .before .before .before .before .match .keys9)) (c .before .before .set-ordinary .ensures m (x .kind) (x .a) (x .k) (lent-ordinary l))
+    let x = c .before .before .before .before .before .before .before .before .before .before .before .before .before .before .before .before .before .before .before .args in
+    answered-ordinary l (event (x .kind) (x .who) (x .a) (x .b) (x .k)) (ap kindOf (c .before .before .before .before .before .before .before .before .before .match .keys9)) (c .before .before .set-ordinary .ensures m (x .kind) (x .a) (x .k) (lent-ordinary l))
 
 returns-10 : tie.Need-returns-10
 returns-10 c =

@@ -1,6 +1,8 @@
--- `machine::event` meets its contract. Assumes nothing.
+-- `machine::event` meets its contract.
+-- Assumes nothing.
 use borrow.Author.Needs.{needs}
 use mathlib.Core.Path.{refl, sym, _∙_}
+use Rattle.cpupri.specs.Record.{lentRecord}
 use Rattle.checker.specs.Lent.{lent}
 use Rattle.rules.specs.Events.{event}
 use Rattle.handling.proofs.Handling.{unchecked-result, result-demand}
@@ -45,10 +47,11 @@ returns c =
     let x = c .before .before .before .before .before .before .before .before .before .before .before .before .before .before .before .before .before .before .before .before .before .before .args in
     let t = lent (x .state .now) (x .policy .now) (x .prio .now) (x .cpu .now) (x .slice .now) (x .mask .now) (x .rows .now) (x .counts .now) (x .flags .now) (x .log .now) in
     let e = event (x .kind) (x .who) (x .a) (x .b) (x .k) in
-    (unchecked-result (x .n) (x .«record») t e (c .before .check .result) (c .before .check .ensures) (c .if1 .taken), (λ z. absurd (c .if1 .taken z), λ z. absurd (c .if1 .taken z)))
+    let k = c .before .check in
+    (unchecked-result (x .n) (x .«record») t e (k .result) (k .ensures) (c .if1 .taken), (λ z. absurd (c .if1 .taken z), λ z. absurd (c .if1 .taken z)))
 
 handle-requires : tie.Need-handle-requires
-handle-requires c κs = sym (c .before .before .before .before .before .before .before .before .before .before .before .check .ensures) ∙ c .before .before .before .before .before .before .before .before .before .before .if1 .left
+handle-requires c κs = sym (c .before .before .before .before .before .before .before .before .before .before .before .before .before .before .before .before .before .before .before .check .ensures) ∙ c .before .before .before .before .before .before .before .before .before .before .before .before .before .before .before .before .before .before .if1 .left
 
 same-length-11 : tie.Need-same-length-11
 same-length-11 c = c .before .before .before .before .before .before .before .before .before .before .before .before .before .before .before .before .before .before .before .before .handle .kept .1 .0
@@ -82,11 +85,13 @@ same-length-20 c = c .before .before .before .before .before .before .before .be
 
 returns-2 : tie.Need-returns-2
 returns-2 c =
-    let x = c .before .before .before .before .before .before .before .before .before .before .before .before .before .before .before .before .before .before .before .before .before .before .before .before .before .before .before .before .before .before .before .before .before .before .before .before .before .before .before .before .before .before .before .before .before .before .before .before .before .before .before .before .before .args in
+    let x = c .before .before .before .before .before .before .before .before .before .before .before .before .before .before .before .before .before .before .before .before .before .before .before .before .before .before .before .before .before .before .before .before .before .before .before .before .before .before .before .before .before .before .before .before .before .before .before .before .before .before .before .before .before .before .before .before .before .before .before .before .before .args in
     let t = lent (x .state .now) (x .policy .now) (x .prio .now) (x .cpu .now) (x .slice .now) (x .mask .now) (x .rows .now) (x .counts .now) (x .flags .now) (x .log .now) in
     let e = event (x .kind) (x .who) (x .a) (x .b) (x .k) in
-    let u = lent (c .before .before .before .before .before .before .before .before .before .before .before .before .before .before .before .before .before .before .before .before .handle .last .1 .0) (c .before .before .before .before .before .before .before .before .before .before .before .before .before .before .before .before .before .before .before .before .handle .last .1 .1 .0) (c .before .before .before .before .before .before .before .before .before .before .before .before .before .before .before .before .before .before .before .before .handle .last .1 .1 .1 .0) (c .before .before .before .before .before .before .before .before .before .before .before .before .before .before .before .before .before .before .before .before .handle .last .1 .1 .1 .1 .0) (c .before .before .before .before .before .before .before .before .before .before .before .before .before .before .before .before .before .before .before .before .handle .last .1 .1 .1 .1 .1 .0) (c .before .before .before .before .before .before .before .before .before .before .before .before .before .before .before .before .before .before .before .before .handle .last .1 .1 .1 .1 .1 .1 .0) (c .before .before .before .before .before .before .before .before .before .before .before .before .before .before .before .before .before .before .before .before .handle .last .1 .1 .1 .1 .1 .1 .1 .0) (c .before .before .before .before .before .before .before .before .before .before .before .before .before .before .before .before .before .before .before .before .handle .last .1 .1 .1 .1 .1 .1 .1 .1 .0) (c .before .before .before .before .before .before .before .before .before .before .before .before .before .before .before .before .before .before .before .before .handle .last .1 .1 .1 .1 .1 .1 .1 .1 .1 .0) (c .before .before .before .before .before .before .before .before .before .before .before .before .before .before .before .before .before .before .before .before .handle .last .1 .1 .1 .1 .1 .1 .1 .1 .1 .1 .0) in
-    (c .before .before .before .before .before .before .before .before .before .before .before .before .before .before .before .before .before .before .before .before .handle .ensures .0, (result-demand (x .n) (x .«record») t e (c .before .before .before .before .before .before .before .before .before .before .before .before .before .before .before .before .before .before .before .before .handle .result .answer) (c .before .before .before .before .before .before .before .before .before .before .before .before .before .before .before .before .before .before .before .before .handle .result .moves) (c .before .before .before .before .before .before .before .before .before .before .before .before .before .before .before .before .before .before .before .before .handle .result .«record») u (c .before .before .before .before .before .before .before .before .before .before .before .before .before .before .before .before .before .before .before .before .handle .ensures .0), λ z. c .before .before .before .before .before .before .before .before .before .before .before .before .before .before .before .before .before .before .before .before .handle .ensures .1))
+    let o = c .before .before .before .before .before .before .before .before .before .before .before .before .before .before .before .before .before .before .before .before .handle in
+    let r = lentRecord (o .last .1 .1 .1 .1 .1 .1 .1 .1 .1 .1 .1 .0) (o .last .1 .1 .1 .1 .1 .1 .1 .1 .1 .1 .1 .1 .0) (o .last .1 .1 .1 .1 .1 .1 .1 .1 .1 .1 .1 .1 .1 .0) (o .last .1 .1 .1 .1 .1 .1 .1 .1 .1 .1 .1 .1 .1 .1 .0) in
+    let u = lent (o .last .1 .0) (o .last .1 .1 .0) (o .last .1 .1 .1 .0) (o .last .1 .1 .1 .1 .0) (o .last .1 .1 .1 .1 .1 .0) (o .last .1 .1 .1 .1 .1 .1 .0) (o .last .1 .1 .1 .1 .1 .1 .1 .0) (o .last .1 .1 .1 .1 .1 .1 .1 .1 .0) (o .last .1 .1 .1 .1 .1 .1 .1 .1 .1 .0) (o .last .1 .1 .1 .1 .1 .1 .1 .1 .1 .1 .0) in
+    (o .ensures .0, (result-demand (x .n) (x .«record») t e (o .result .answer) (o .result .moves) r u (o .ensures .0), λ z. o .ensures .1))
 
 pub event-spec : {M : Type 1} → statement M
 event-spec =

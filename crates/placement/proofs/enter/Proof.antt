@@ -83,8 +83,7 @@ module _ {ps ks flat : List ℕ} {r : Record} {t c : ℕ} (m : Machine) (l : Ent
       levels-after = levels-set m ps ks flat r c joined (l .held) (l .cpu) v level-is
 
 enqueue-requires : tie.Need-enqueue-requires
-enqueue-requires c κs =
-    let a = c .before .before .before .before .before .before in
+enqueue-requires c κs = let a = c .before .before .before .before .before .before in
     let m = a .pre .0 .0 in
     let l = a .pre .0 .1 in
     let row-is = read-row m _ _ _ _ (l .held) (a .args .cpu) in (
@@ -112,8 +111,7 @@ slice-write-cpus : tie.Need-slice-write-cpus
 slice-write-cpus c = let l = c .before .before .before .before .before .before .before .before .before .before .before .pre .0 .1 in omega (arith, l .task, c .before .before .before .before .before .before .before .before .before .before .before .pre .1)
 
 first-level-requires : tie.Need-first-level-requires
-first-level-requires c κs =
-    let a = c .before .before .before .before .before .before .before .before .before .before .before .before in
+first-level-requires c κs = let a = c .before .before .before .before .before .before .before .before .before .before .before .before in
     let l = a .pre .0 .1 in
     let h = after (a .pre .0 .0) l (c .before .before .before .before .before .enqueue .last .1 .0) (c .before .before .before .before .before .enqueue .last .0) (c .before .before .before .before .before .enqueue .ensures .1) (c .before .before .before .before .before .enqueue .ensures .0) in
     let m′ = entered (a .pre .0 .0) l in
@@ -122,12 +120,11 @@ first-level-requires c κs =
     (omega arith, (ap length (l .held .prio) ∙ l .held .order .prios, (first .0, first .1)))
 
 set-level-requires : tie.Need-set-level-requires
-set-level-requires c κs =
-    let a = c .before .before .before .before .before .before .before .before .before .before .before .before .before in
+set-level-requires c κs = let a = c .before .before .before .before .before .before .before .before .before .before .before .before .before .before .before .before .before in
     let l = a .pre .0 .1 in
-    let h = after (a .pre .0 .0) l (c .before .before .before .before .before .before .enqueue .last .1 .0) (c .before .before .before .before .before .before .enqueue .last .0) (c .before .before .before .before .before .before .enqueue .ensures .1) (c .before .before .before .before .before .before .enqueue .ensures .0) in (
+    let h = after (a .pre .0 .0) l (c .before .before .before .before .before .before .before .before .before .before .enqueue .last .1 .0) (c .before .before .before .before .before .before .before .before .before .before .enqueue .last .0) (c .before .before .before .before .before .before .before .before .before .before .enqueue .ensures .1) (c .before .before .before .before .before .before .before .before .before .before .enqueue .ensures .0) in (
       whole (a .pre .0 .0) _ _ _ _ (l .held),
-      (omega (arith, l .held .order .cpus, l .cpu), level-ok (a .pre .0 .0) l h (c .first-level .result .number) (c .first-level .ensures)),
+      (omega (arith, l .held .order .cpus, l .cpu), level-ok (a .pre .0 .0) l h (c .before .before .before .before .first-level .result .number) (c .before .before .before .before .first-level .ensures)),
     )
 
 same-length : tie.Need-same-length
@@ -142,13 +139,13 @@ same-length-3 c = search needs
 returns : tie.Need-returns
 returns c = (
   λ m l.
-      let h = after m l (c .before .before .before .before .before .before .before .enqueue .last .1 .0) (c .before .before .before .before .before .before .before .enqueue .last .0) (c .before .before .before .before .before .before .before .enqueue .ensures .1) (c .before .before .before .before .before .before .before .enqueue .ensures .0) in
+      let h = after m l (c .before .before .before .before .before .before .before .before .before .before .before .enqueue .last .1 .0) (c .before .before .before .before .before .before .before .before .before .before .before .enqueue .last .0) (c .before .before .before .before .before .before .before .before .before .before .before .enqueue .ensures .1) (c .before .before .before .before .before .before .before .before .before .before .before .enqueue .ensures .0) in
       record {
         order = record { cpus = h .order .cpus; rows = h .order .rows; prios = h .order .prios; fits = h .order .fits; tasks = h .order .tasks; high = h .order .high; flags = h .order .flags; falling = h .order .falling };
         prio = h .prio;
         counts = h .counts;
         rows = h .rows;
-        levels = c .set-level .ensures ∙ ap recordOf (levels-after m l h (c .before .first-level .result .number) (c .before .first-level .ensures));
+        levels = c .set-level .ensures ∙ ap recordOf (levels-after m l h (c .before .before .before .before .before .first-level .result .number) (c .before .before .before .before .before .first-level .ensures));
       },
   refl,
 )

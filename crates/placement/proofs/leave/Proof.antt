@@ -50,8 +50,7 @@ module _ {ps fs ks flat : List ℕ} {r : Record} {t c : ℕ} (m : Machine) (l : 
         (level-is ∙ ap (rowLevel (prioOf m) (flag m c)) (row-same m c (delete t (row m c)) (omega (arith, l .held .order .rows, l .cpu))))
 
 dequeue-requires : tie.Need-dequeue-requires
-dequeue-requires c κs =
-    let a = c .before .before .before .before .before .before in
+dequeue-requires c κs = let a = c .before .before .before .before .before .before in
     let m = a .pre .0 in
     let l = a .pre .1 in (
       holds m _ _ _ _ (l .held),
@@ -59,8 +58,7 @@ dequeue-requires c κs =
     )
 
 cpu-level-requires : tie.Need-cpu-level-requires
-cpu-level-requires c κs =
-    let a = c .before .before .before .before .before .before .before .before .before .before .before .before .before in
+cpu-level-requires c κs = let a = c .before .before .before .before .before .before .before .before .before .before .before .before .before in
     let l = a .pre .1 in
     let h = after (a .pre .0) l (c .before .before .before .before .before .before .dequeue .last .1 .0) (c .before .before .before .before .before .before .dequeue .last .0) (c .before .before .before .before .before .before .dequeue .ensures .1) (c .before .before .before .before .before .before .dequeue .ensures .0) in
     let m′ = dequeue (a .args .task) (a .args .cpu) (a .pre .0) in (
@@ -75,12 +73,11 @@ cpu-level-requires c κs =
     )
 
 set-level-requires : tie.Need-set-level-requires
-set-level-requires c κs =
-    let a = c .before .before .before .before .before .before .before .before .before .before .before .before .before .before in
+set-level-requires c κs = let a = c .before .before .before .before .before .before .before .before .before .before .before .before .before .before .before .before .before .before in
     let l = a .pre .1 in
-    let h = after (a .pre .0) l (c .before .before .before .before .before .before .before .dequeue .last .1 .0) (c .before .before .before .before .before .before .before .dequeue .last .0) (c .before .before .before .before .before .before .before .dequeue .ensures .1) (c .before .before .before .before .before .before .before .dequeue .ensures .0) in (
+    let h = after (a .pre .0) l (c .before .before .before .before .before .before .before .before .before .before .before .dequeue .last .1 .0) (c .before .before .before .before .before .before .before .before .before .before .before .dequeue .last .0) (c .before .before .before .before .before .before .before .before .before .before .before .dequeue .ensures .1) (c .before .before .before .before .before .before .before .before .before .before .before .dequeue .ensures .0) in (
       whole (a .pre .0) _ _ _ _ (l .held),
-      (omega (arith, l .held .order .cpus, l .cpu), level-ok (a .pre .0) l h (c .cpu-level .result .number) (c .cpu-level .ensures)),
+      (omega (arith, l .held .order .cpus, l .cpu), level-ok (a .pre .0) l h (c .before .before .before .before .cpu-level .result .number) (c .before .before .before .before .cpu-level .ensures)),
     )
 
 same-length : tie.Need-same-length
@@ -90,15 +87,14 @@ same-length-2 : tie.Need-same-length-2
 same-length-2 c = search needs
 
 returns : tie.Need-returns
-returns c =
-    λ m l.
-    let h = after m l (c .before .before .before .before .before .before .before .before .dequeue .last .1 .0) (c .before .before .before .before .before .before .before .before .dequeue .last .0) (c .before .before .before .before .before .before .before .before .dequeue .ensures .1) (c .before .before .before .before .before .before .before .before .dequeue .ensures .0) in
+returns c = λ m l.
+    let h = after m l (c .before .before .before .before .before .before .before .before .before .before .before .before .dequeue .last .1 .0) (c .before .before .before .before .before .before .before .before .before .before .before .before .dequeue .last .0) (c .before .before .before .before .before .before .before .before .before .before .before .before .dequeue .ensures .1) (c .before .before .before .before .before .before .before .before .before .before .before .before .dequeue .ensures .0) in
     record {
       order = h .order;
       prio = h .prio;
       counts = h .counts;
       rows = h .rows;
-      levels = c .set-level .ensures ∙ ap recordOf (levels-after m l h (c .before .cpu-level .result .number) (c .before .cpu-level .ensures));
+      levels = c .set-level .ensures ∙ ap recordOf (levels-after m l h (c .before .before .before .before .before .cpu-level .result .number) (c .before .before .before .before .before .cpu-level .ensures));
     }
 
 pub leave-spec : {M : Type 1} → statement M

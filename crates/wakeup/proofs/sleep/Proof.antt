@@ -30,8 +30,7 @@ same-length : tie.Need-same-length
 same-length c = search needs
 
 returns : tie.Need-returns
-returns c =
-    λ m kind a b k l.
+returns c = λ m kind a b k l.
     let who = c .before .before .before .before .before .before .before .before .before .args .who in
     let e = answer-of 2 who (l .state) _ (c .before .in-state .ensures) in
     let q = sym (after-refused sleep (event kind who a b k) m (λ z. c .if1 .taken (e ∙ z))) in
@@ -44,16 +43,15 @@ cast-home : tie.Need-cast-home
 cast-home c = omega (arith, c .shared-slice-known4 .given (c .before .before .before .before .before .before .before .before .before .before .args .who))
 
 cast-leave : tie.Need-cast-leave
-cast-leave c = let s = runner (c .before .before .before .before .before .before .before .before .before .before .before .before .pre .1) (c .before .before .before .before .before .before .before .before .before .before .before .before .args .who) _ (c .before .before .before .before .in-state .ensures) (c .before .before .before .if1 .left) in omega (arith, s .0)
+cast-leave c = let s = runner (c .before .before .before .before .before .before .before .before .before .before .before .before .before .before .before .before .pre .1) (c .before .before .before .before .before .before .before .before .before .before .before .before .before .before .before .before .args .who) _ (c .before .before .before .before .before .before .before .before .in-state .ensures) (c .before .before .before .before .before .before .before .if1 .left) in omega (arith, s .0)
 
 leave-requires : tie.Need-leave-requires
-leave-requires c κs =
-    let a = c .before .before .before .before .before .before .before .before .before .before .before .before in
+leave-requires c κs = let a = c .before .before .before .before .before .before .before .before .before .before .before .before .before .before .before .before in
     let l = a .pre .1 in
-    (a .pre .0, leaving (a .pre .0) (a .args .who) (l .formed) (runner (c .before .before .before .before .before .before .before .before .before .before .before .before .pre .1) (c .before .before .before .before .before .before .before .before .before .before .before .before .args .who) _ (c .before .before .before .before .in-state .ensures) (c .before .before .before .if1 .left)) _ (ap (λ (xs : List ℕ). getD xs (a .args .who) 0) (l .cpu)) (l .prio) (l .flags) (l .placed))
+    (a .pre .0, leaving (a .pre .0) (a .args .who) (l .formed) (runner (c .before .before .before .before .before .before .before .before .before .before .before .before .before .before .before .before .pre .1) (c .before .before .before .before .before .before .before .before .before .before .before .before .before .before .before .before .args .who) _ (c .before .before .before .before .before .before .before .before .in-state .ensures) (c .before .before .before .before .before .before .before .if1 .left)) _ (ap (λ (xs : List ℕ). getD xs (a .args .who) 0) (l .cpu)) (l .prio) (l .flags) (l .placed))
 
 slice-write-state : tie.Need-slice-write-state
-slice-write-state c = let s = runner (c .before .before .before .before .before .before .before .before .before .before .before .before .before .before .before .before .before .pre .1) (c .before .before .before .before .before .before .before .before .before .before .before .before .before .before .before .before .before .args .who) _ (c .before .before .before .before .before .before .before .before .before .in-state .ensures) (c .before .before .before .before .before .before .before .before .if1 .left) in let l = c .before .before .before .before .before .before .before .before .before .before .before .before .before .before .before .before .before .pre .1 in omega (arith, s .0, ap length (l .state), l .formed .shape .state)
+slice-write-state c = let s = runner (c .before .before .before .before .before .before .before .before .before .before .before .before .before .before .before .before .before .before .before .before .before .pre .1) (c .before .before .before .before .before .before .before .before .before .before .before .before .before .before .before .before .before .before .before .before .before .args .who) _ (c .before .before .before .before .before .before .before .before .before .before .before .before .before .in-state .ensures) (c .before .before .before .before .before .before .before .before .before .before .before .before .if1 .left) in let l = c .before .before .before .before .before .before .before .before .before .before .before .before .before .before .before .before .before .before .before .before .before .pre .1 in omega (arith, s .0, ap length (l .state), l .formed .shape .state)
 
 same-length-2 : tie.Need-same-length-2
 same-length-2 c = search needs
@@ -65,13 +63,12 @@ same-length-4 : tie.Need-same-length-4
 same-length-4 c = c .before .before .before .before .leave .kept .1 .0
 
 returns-2 : tie.Need-returns-2
-returns-2 c =
-    λ m kind a b k l.
-    let who = c .before .before .before .before .before .before .before .before .before .before .before .before .before .before .before .before .before .args .who in
-    let e = c .before .before .before .before .before .before .before .before .before .in-state .ensures in
-    let z = c .before .before .before .before .before .before .before .before .if1 .left in
+returns-2 c = λ m kind a b k l.
+    let who = c .before .before .before .before .before .before .before .before .before .before .before .before .before .before .before .before .before .before .before .before .before .args .who in
+    let e = c .before .before .before .before .before .before .before .before .before .before .before .before .before .in-state .ensures in
+    let z = c .before .before .before .before .before .before .before .before .before .before .before .before .if1 .left in
     let s = runner l who _ e z in
-    let is : getD (c .before .before .before .before .before .before .before .before .before .before .before .before .before .before .before .before .before .args .cpu .now) who 0 ≡ taskOf m who .cpu = ap (λ (xs : List ℕ). getD xs who 0) (l .cpu) in
+    let is : getD (c .before .before .before .before .before .before .before .before .before .before .before .before .before .before .before .before .before .before .before .before .before .args .cpu .now) who 0 ≡ taskOf m who .cpu = ap (λ (xs : List ℕ). getD xs who 0) (l .cpu) in
     let q = sym (after-done sleep (event kind who a b k) m (sym (answer-of 2 who (l .state) _ e) ∙ z)) in
     record {
       answer = sym z ∙ answer-of 2 who (l .state) _ e;

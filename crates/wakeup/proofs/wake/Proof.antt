@@ -43,8 +43,7 @@ same-length : tie.Need-same-length
 same-length c = search needs
 
 returns : tie.Need-returns
-returns c =
-    λ m kind a b k l.
+returns c = λ m kind a b k l.
     let who = c .before .before .before .before .before .before .before .before .before .args .who in
     let e = answer-of 1 who (l .state) _ (c .before .in-state .ensures) in
     let q = sym (after-refused wake (event kind who a b k) m (λ z. c .if1 .taken (e ∙ z))) in
@@ -74,15 +73,14 @@ slice-write-state : tie.Need-slice-write-state
 slice-write-state c = let s = sleeper (c .before .before .before .before .before .before .before .before .before .before .before .before .pre .1) (c .before .before .before .before .before .before .before .before .before .before .before .before .args .who) _ (c .before .before .before .before .in-state .ensures) (c .before .before .before .if1 .left) in let l = c .before .before .before .before .before .before .before .before .before .before .before .before .pre .1 in omega (arith, s .0, ap length (l .state), l .formed .shape .state)
 
 cast-enter : tie.Need-cast-enter
-cast-enter c = let s = sleeper (c .before .before .before .before .before .before .before .before .before .before .before .before .before .before .before .pre .1) (c .before .before .before .before .before .before .before .before .before .before .before .before .before .before .before .args .who) _ (c .before .before .before .before .before .before .before .in-state .ensures) (c .before .before .before .before .before .before .if1 .left) in omega (arith, s .0)
+cast-enter c = let s = sleeper (c .before .before .before .before .before .before .before .before .before .before .before .before .before .before .before .before .before .before .before .pre .1) (c .before .before .before .before .before .before .before .before .before .before .before .before .before .before .before .before .before .before .before .args .who) _ (c .before .before .before .before .before .before .before .before .before .before .before .in-state .ensures) (c .before .before .before .before .before .before .before .before .before .before .if1 .left) in omega (arith, s .0)
 
 enter-requires : tie.Need-enter-requires
-enter-requires c κs =
-    let a = c .before .before .before .before .before .before .before .before .before .before .before .before .before .before .before in
+enter-requires c κs = let a = c .before .before .before .before .before .before .before .before .before .before .before .before .before .before .before .before .before .before .before in
     let l = a .pre .1 in (
       (
         a .pre .0,
-        entering-wake (a .pre .0) (a .args .who) (l .formed) (sleeper (c .before .before .before .before .before .before .before .before .before .before .before .before .before .before .before .pre .1) (c .before .before .before .before .before .before .before .before .before .before .before .before .before .before .before .args .who) _ (c .before .before .before .before .before .before .before .in-state .ensures) (c .before .before .before .before .before .before .if1 .left)) _ (target-is (c .before .before .before .before .before .before .before .before .before .before .before .before .before .before .before .pre .1) (c .before .before .before .before .before .before .before .before .before .before .before .before .before .before .before .args .who) _ (c .before .before .before .before .before .before .before .in-state .ensures) (c .before .before .before .before .before .before .if1 .left) _ (c .before .before .before .wake-cpu .ensures)) (l .prio) (l .placed),
+        entering-wake (a .pre .0) (a .args .who) (l .formed) (sleeper (c .before .before .before .before .before .before .before .before .before .before .before .before .before .before .before .before .before .before .before .pre .1) (c .before .before .before .before .before .before .before .before .before .before .before .before .before .before .before .before .before .before .before .args .who) _ (c .before .before .before .before .before .before .before .before .before .before .before .in-state .ensures) (c .before .before .before .before .before .before .before .before .before .before .if1 .left)) _ (target-is (c .before .before .before .before .before .before .before .before .before .before .before .before .before .before .before .before .before .before .before .pre .1) (c .before .before .before .before .before .before .before .before .before .before .before .before .before .before .before .before .before .before .before .args .who) _ (c .before .before .before .before .before .before .before .before .before .before .before .in-state .ensures) (c .before .before .before .before .before .before .before .before .before .before .if1 .left) _ (c .before .before .before .before .before .before .before .wake-cpu .ensures)) (l .prio) (l .placed),
       ),
       ap length (l .cpu) ∙ l .formed .shape .cpu,
     )
@@ -100,14 +98,13 @@ same-length-5 : tie.Need-same-length-5
 same-length-5 c = c .before .before .before .before .before .before .enter .kept .1 .0
 
 returns-2 : tie.Need-returns-2
-returns-2 c =
-    λ m kind a b k l.
-    let who = c .before .before .before .before .before .before .before .before .before .before .before .before .before .before .before .before .before .before .before .before .before .before .args .who in
-    let e = c .before .before .before .before .before .before .before .before .before .before .before .before .before .before .in-state .ensures in
-    let z = c .before .before .before .before .before .before .before .before .before .before .before .before .before .if1 .left in
+returns-2 c = λ m kind a b k l.
+    let who = c .before .before .before .before .before .before .before .before .before .before .before .before .before .before .before .before .before .before .before .before .before .before .before .before .before .before .args .who in
+    let e = c .before .before .before .before .before .before .before .before .before .before .before .before .before .before .before .before .before .before .in-state .ensures in
+    let z = c .before .before .before .before .before .before .before .before .before .before .before .before .before .before .before .before .before .if1 .left in
     let s = sleeper l who _ e z in
-    let target = c .before .before .before .before .before .before .before .before .before .before .wake-cpu .result in
-    let is = target-is l who _ e z target (c .before .before .before .before .before .before .before .before .before .before .wake-cpu .ensures) in
+    let target = c .before .before .before .before .before .before .before .before .before .before .before .before .before .before .wake-cpu .result in
+    let is = target-is l who _ e z target (c .before .before .before .before .before .before .before .before .before .before .before .before .before .before .wake-cpu .ensures) in
     let q = sym (after-done wake (event kind who a b k) m (sym (answer-of 1 who (l .state) _ e) ∙ z)) in
     record {
       answer = sym z ∙ answer-of 1 who (l .state) _ e;

@@ -67,10 +67,10 @@ dequeue-requires c κs =
 
 enter-requires : tie.Need-enter-requires
 enter-requires c κs =
-    let a = c .before .before .before .before .before .before .before .before .before .before .before .before .before .before in
+    let a = c .before .before .before .before .before .before .before .before .before .before .before .before .before .before .before .before .before .before in
     let m = a .pre .0 .0 in
     let s = a .pre .0 .1 in
-    ((dequeue (a .args .task) (a .args .origin) m, entering m s _ _ (c .before .before .before .before .before .before .before .dequeue .ensures .1) (c .before .before .before .before .before .before .before .dequeue .ensures .0)), a .pre .1)
+    ((dequeue (a .args .task) (a .args .origin) m, entering m s _ _ (c .before .before .before .before .before .before .before .before .before .before .before .dequeue .ensures .1) (c .before .before .before .before .before .before .before .before .before .before .before .dequeue .ensures .0)), a .pre .1)
 
 same-length : tie.Need-same-length
 same-length c = search needs
@@ -83,7 +83,7 @@ same-length-3 c = search needs
 
 returns : tie.Need-returns
 returns c = (
-  λ m s. c .before .before .before .before .before .before .enter .ensures .0 (dequeue (c .before .before .before .before .before .before .before .before .before .before .before .before .before .before .before .before .before .before .before .before .before .args .task) (c .before .before .before .before .before .before .before .before .before .before .before .before .before .before .before .before .before .before .before .before .before .args .origin) m) (entering m s _ _ (c .before .before .before .before .before .before .before .before .before .before .before .before .before .before .dequeue .ensures .1) (c .before .before .before .before .before .before .before .before .before .before .before .before .before .before .dequeue .ensures .0)),
+  λ m s. c .before .before .before .before .before .before .enter .ensures .0 (dequeue (c .before .before .before .before .before .before .before .before .before .before .before .before .before .before .before .before .before .before .before .before .before .before .before .before .before .args .task) (c .before .before .before .before .before .before .before .before .before .before .before .before .before .before .before .before .before .before .before .before .before .before .before .before .before .args .origin) m) (entering m s _ _ (c .before .before .before .before .before .before .before .before .before .before .before .before .before .before .before .before .before .before .dequeue .ensures .1) (c .before .before .before .before .before .before .before .before .before .before .before .before .before .before .before .before .before .before .dequeue .ensures .0)),
   c .before .before .before .before .before .before .enter .ensures .1,
 )
 

@@ -38,8 +38,7 @@ module _ {n : ℕ} {fs ns : List ℕ} {r : Record} {m : Machine} (l : LentOrdina
   levels-are = ap (λ (x : Record). x .levels) (l .levels)
 
 returns : tie.Need-returns
-returns c =
-    λ m kind a k l.
+returns c = λ m kind a k l.
     let who = c .before .before .before .args .who in
     let b = c .before .before .before .args .b in
     let e = ordinary-nowhere m (event kind who a b k) _ (l .cpus) (c .if1 .taken) in
@@ -47,8 +46,7 @@ returns c =
     record { answer = e; flags = l .flags ∙ ap (λ (x : Machine). x .flags) q; levels = l .levels ∙ ap (λ (x : Machine). recordOf (levels x)) q }
 
 returns-2 : tie.Need-returns-2
-returns-2 c =
-    λ m kind a k l.
+returns-2 c = λ m kind a k l.
     let who = c .before .before .before .before .args .who in
     let b = c .before .before .before .before .args .b in
     let e = ordinary-refused m (event kind who a b k) _ (l .cpus) (c .before .if1 .left) (c .if2 .taken) in
@@ -71,8 +69,7 @@ same-length : tie.Need-same-length
 same-length c = search needs
 
 returns-3 : tie.Need-returns-3
-returns-3 c =
-    λ m kind a k l.
+returns-3 c = λ m kind a k l.
     let who = c .before .before .before .before .before .before .args .who in
     let b = c .before .before .before .before .before .before .args .b in
     let h = c .before .before .before .if1 .left in
@@ -86,23 +83,21 @@ returns-3 c =
     }
 
 set-level-requires : tie.Need-set-level-requires
-set-level-requires c κs =
-    let a = c .before .before .before .before .before .before in
+set-level-requires c κs = let a = c .before .before .before .before .before .before .before .before .before .before in
     let l = a .pre .1 in
-    (whole l, (omega (arith, c .before .before .before .if1 .left, l .cpus, l .formed .shape .cpus), level-known (a .args .b) (omega (arith, c .before .before .if2 .left))))
+    (whole l, (omega (arith, c .before .before .before .before .before .before .before .if1 .left, l .cpus, l .formed .shape .cpus), level-known (a .args .b) (omega (arith, c .before .before .before .before .before .before .if2 .left))))
 
 same-length-2 : tie.Need-same-length-2
 same-length-2 c = search needs
 
 returns-4 : tie.Need-returns-4
-returns-4 c =
-    λ m kind a k l.
-    let who = c .before .before .before .before .before .before .before .args .who in
-    let b = c .before .before .before .before .before .before .before .args .b in
-    let h = c .before .before .before .before .if1 .left in
-    let e = ordinary-accepted m (event kind who a b k) _ (l .cpus) h (c .before .before .before .if2 .left) in
+returns-4 c = λ m kind a k l.
+    let who = c .before .before .before .before .before .before .before .before .before .before .before .args .who in
+    let b = c .before .before .before .before .before .before .before .before .before .before .before .args .b in
+    let h = c .before .before .before .before .before .before .before .before .if1 .left in
+    let e = ordinary-accepted m (event kind who a b k) _ (l .cpus) h (c .before .before .before .before .before .before .before .if2 .left) in
     let q = sym (after-done set-ordinary (event kind who a b k) m (sym e)) in
-    let idle = flag-idle m who b (l .formed) (small l who h) (sym (count-row l who) ∙ c .before .if3 .left) in
+    let idle = flag-idle m who b (l .formed) (small l who h) (sym (count-row l who) ∙ c .before .before .before .before .before .if3 .left) in
     record {
       answer = e;
       flags = ap (λ (xs : List ℕ). set xs who b) (l .flags) ∙ ap (λ (x : Machine). x .flags) q;
