@@ -1,8 +1,43 @@
 //! The event without its check of the tables, which is no public entry.
 
-use binding::{entry, lend, Event, Outcome, Tables};
+use binding::{Event, Outcome, Tables};
 
-entry!(qoriwesh_inner_event, mut, kind: u32, who: u32, a: u32, b: u32, k: u64, moves: *mut u32);
+extern "C" {
+    /// The record's four tables have fixed lengths, and are lent without them.
+    fn qoriwesh_inner_event(
+        n: usize,
+        state: *mut u8,
+        state_len: usize,
+        policy: *mut u8,
+        policy_len: usize,
+        prio: *mut u8,
+        prio_len: usize,
+        cpu: *mut u8,
+        cpu_len: usize,
+        slice: *mut u16,
+        slice_len: usize,
+        mask: *mut u64,
+        mask_len: usize,
+        rows: *mut u16,
+        rows_len: usize,
+        counts: *mut u16,
+        counts_len: usize,
+        flags: *mut u8,
+        flags_len: usize,
+        log: *mut u16,
+        log_len: usize,
+        level_masks: *mut u64,
+        level_counts: *mut u8,
+        level_words: *mut u64,
+        levels: *mut u8,
+        kind: u32,
+        who: u32,
+        a: u32,
+        b: u32,
+        k: u64,
+        moves: *mut u32,
+    ) -> u8;
+}
 
 /// Tables that passed the check. An event leaves them such.
 #[derive(Clone)]
@@ -33,19 +68,41 @@ impl Checked {
     pub fn event(&mut self, e: Event) -> Outcome {
         let t = &mut self.0;
         let mut moves = 0;
-        // Safety: the tables passed the check; each pointer is a vector's own, with its length, and no two
-        // vectors overlap; `moves` is a local of this function.
+        // Safety: the tables passed the check, so the record's four have their lengths; each pointer is a vector's own,
+        // with its length, and no two vectors overlap; `moves` is a local of this function.
         let answer = unsafe {
-            lend!(
-                qoriwesh_inner_event,
-                t,
-                as_mut_ptr,
+            qoriwesh_inner_event(
+                t.n,
+                t.state.as_mut_ptr(),
+                t.state.len(),
+                t.policy.as_mut_ptr(),
+                t.policy.len(),
+                t.prio.as_mut_ptr(),
+                t.prio.len(),
+                t.cpu.as_mut_ptr(),
+                t.cpu.len(),
+                t.slice.as_mut_ptr(),
+                t.slice.len(),
+                t.mask.as_mut_ptr(),
+                t.mask.len(),
+                t.rows.as_mut_ptr(),
+                t.rows.len(),
+                t.counts.as_mut_ptr(),
+                t.counts.len(),
+                t.flags.as_mut_ptr(),
+                t.flags.len(),
+                t.log.as_mut_ptr(),
+                t.log.len(),
+                t.level_masks.as_mut_ptr(),
+                t.level_counts.as_mut_ptr(),
+                t.level_words.as_mut_ptr(),
+                t.levels.as_mut_ptr(),
                 e.kind,
                 e.who,
                 e.a,
                 e.b,
                 e.mask,
-                &mut moves
+                &mut moves,
             )
         };
         Outcome { answer, moves }
