@@ -33,6 +33,7 @@ use Rattle.placement.specs.Held.{Held}
 use Rattle.placement.proofs.Order.{well-formed-order, holds, read-row, cpus-counted, above}
 use Rattle.mover.specs.Wanted.{findable, wanted, Searchable}
 use Rattle.mover.specs.Foremost.{Looking, BestOf}
+use Rattle.mover.specs.Waiting.{NextWaiting}
 use Rattle.mover.specs.declared.pick.Mover.{Mover}
 
 -- ---- tails
@@ -48,6 +49,12 @@ length-tail (x ∷ xs) = inl refl
 pub getD-tail : (r : List ℕ) (k : ℕ) → getD (tail r) k 0 ≡ getD r (suc k) 0
 getD-tail [] k = refl
 getD-tail (x ∷ xs) k = refl
+
+-- a row of fewer than two tasks has none that waits
+short : (r : List ℕ) (u : ℕ) → length r < 2 → In u (tail r) → ⊥
+short [] u h i = not-in-nil u i
+short (x ∷ []) u h i = not-in-nil u i
+short (x ∷ (y ∷ r)) u h i = not-suc-le-zero (le-of-suc-le-suc (le-of-suc-le-suc h))
 
 -- a task that waits stands one place further in the row than in its tail
 place-tail : (u : ℕ) (r : List ℕ) → occ u r ≤ 1 → In u (tail r) → place u r ≡ suc (place u (tail r))
@@ -263,3 +270,31 @@ module _ (m : Machine) (ps ms ks flat masks : List ℕ) (k : Looking m ps ms ks 
               let later : a ≤ place u queue = behind u i t q in
               let its : place u (row m c) ≡ suc (place u queue) = place-tail u (row m c) (once m u c (k .well)) i in
               omega arith
+
+  -- from CPU c up to r nobody waits: the best stays
+  pub skip-best : (b : Mover) (c n r : ℕ) → n ≡ m .n → NextWaiting ks c n r → BestOf m c b → BestOf m r b
+  skip-best b c n r size next best =
+      record {
+        none = λ z d l u i. best .none z d (below d l u i) u i;
+        some = λ p. let f = best .some p in
+            record {
+              cpu = omega (arith, f .cpu, next .low);
+              waits = f .waits;
+              moves = f .moves;
+              prio = f .prio;
+              highest = λ d l u i. f .highest d (below d l u i) u i;
+              lowest-cpu = λ d l u i. f .lowest-cpu d (below d l u i) u i;
+              earliest = f .earliest;
+            };
+      }
+    where
+      -- a row below r in which a task waits is below c
+      below : (d : ℕ) → d < r → (u : ℕ) → In u (tail (row m d)) → d < c
+      below d l u i = go (ltb d c) refl
+        where
+          go : (x : Bool) → ltb d c ≡ x → d < c
+          go true e = ltb-true d c e
+          go false e =
+              let few : getD ks d 0 < 2 = next .none d l (ltb-false d c e) in
+              let size-is : getD ks d 0 ≡ length (row m d) = row-count d (omega (arith, next .most)) in
+              absurd (short (row m d) u (omega arith) i)

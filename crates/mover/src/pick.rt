@@ -1,9 +1,11 @@
 // The mover: the movable task of highest priority, among equals the one on the lowest-numbered CPU, and
 // among those the earliest in its row.
 ghost use mathlib.Core.Path.{_≡_};
-ghost use Prim.Native.Nat.{suc, _<_};
+ghost use Prim.Native.Nat.{suc, _≤_, _<_};
+ghost use lib.ListN.{getD};
 ghost use Rattle.rules.specs.Machine.{Machine};
 ghost use Rattle.mover.specs.Foremost.{Looking, BestOf};
+ghost use Rattle.mover.specs.Waiting.{NextWaiting};
 use super::scan::scan;
 use cpupri::record::LEVELS;
 use runqueue::row::PLACES;
@@ -32,12 +34,27 @@ pub fn pick(
         origin: 0,
         priority: 0,
     };
-    let mut cpu = 0;
+    let mut cpu = next_waiting(counts, 0, n);
     while cpu < n {
         best = better(best, cpu, prio, mask, rows, counts, masks);
-        cpu += 1;
+        cpu = next_waiting(counts, cpu + 1, n);
     }
     best
+}
+
+// The first CPU on which a task waits, from the CPU `from` on; n if there is none.
+fn next_waiting(counts: &[u16], from: usize, n: usize) -> usize
+    requires { do ⌜ ((from ≤ n) × (n ≤ (← ⟦counts.len()⟧))) ⌝ }
+    ensures { λ r. ⌜ NextWaiting (now (counts .entry)) from n r ⌝ }
+{
+    let mut next = from;
+    while next < n {
+        if counts[next] >= 2 {
+            return next;
+        }
+        next += 1;
+    }
+    n
 }
 
 // The better of the best so far and the waiting tasks of one more CPU.
@@ -50,13 +67,10 @@ fn better(
     counts: &[u16],
     masks: &[u64; LEVELS],
 ) -> Mover
-    requires { ⌜ ((m : Machine) × (Looking m (now prio) (now mask) (now counts) (now rows) (now masks) × (cpu < m .n))) ⌝ }
+    requires { ⌜ ((m : Machine) × (Looking m (now prio) (now mask) (now counts) (now rows) (now masks) × (cpu < m .n) × (2 ≤ getD (now counts) cpu 0))) ⌝ }
     ensures { λ r. ⌜ ((m : Machine) → Looking m (now (prio .entry)) (now (mask .entry)) (now (counts .entry)) (now (rows .entry)) (now (masks .entry)) → cpu < m .n → BestOf m cpu best → BestOf m (suc cpu) r) ⌝ }
 {
     let count = counts[cpu] as usize;
-    if count < 2 {
-        return best;
-    }
     let start = cpu * PLACES;
     let floor = best.priority;
     let at = scan(

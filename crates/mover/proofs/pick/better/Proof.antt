@@ -5,7 +5,7 @@ use mathlib.Core.Bool.{Bool, false}
 use mathlib.Core.Logic.{_⊎_, inl, inr}
 use mathlib.Core.List.{List, [], _∷_, tail}
 use Prim.Native.Nat.{ℕ, suc, _+_, _-_, _*_, _≤_, _<_}
-use native.Mathlib.Nat.{not-suc-le-zero, le-of-suc-le-suc}
+use native.Mathlib.Nat.{not-suc-le-zero}
 use native.Mathlib.Omega.{arith}
 use lib.ListN.{length, getD, take, drop}
 use Rattle.rules.specs.Lists.{In}
@@ -23,12 +23,6 @@ use Rattle.mover.specs.Foremost.{Looking}
 use Rattle.mover.proofs.Candidates.{length-tail, getD-tail, looking-held, looking-rows, looking-cpus, row-is, row-count, part-is-row, searchable, keep-best, new-best}
 use Rattle.mover.proofs.pick.better.Statement.{statement}
 use Rattle.mover.proofs.pick.better.Tie as tie
-
--- a row of fewer than two tasks has none that waits
-short : (r : List ℕ) (u : ℕ) → length r < 2 → In u (tail r) → ⊥
-short [] u h i = not-in-nil u i
-short (x ∷ []) u h i = not-in-nil u i
-short (x ∷ (y ∷ r)) u h i = not-suc-le-zero (le-of-suc-le-suc (le-of-suc-le-suc h))
 
 -- the scan came to the end: nothing that waits is wanted
 none-wanted : (p : ℕ → Bool) (r : List ℕ) → suc (ahead p (tail r)) ≡ length r → (u : ℕ) → In u (tail r) → p u ≡ false
@@ -62,26 +56,32 @@ module _ (a : tie.Start) (m : Machine) (k : Looking m (a .args .prio .now) (a .a
       ∙ ap (λ (r : List ℕ). getD r at 0) (row-is m _ _ _ _ _ k (a .args .cpu) h)
       ∙ ap (λ (i : ℕ). getD (row m (a .args .cpu)) i 0) (sym e) ∙ sym (getD-tail (row m (a .args .cpu)) (at - 1))
 
+-- the row's part of the table
+fits : (a : tie.Start) → a .args .cpu * 512 + 512 ≤ length (a .args .rows .now)
+fits a =
+    let h : a .args .cpu < length (a .args .counts .now) = omega (arith, looking-cpus (a .pre .0) _ _ _ _ _ (a .pre .1 .0), a .pre .1 .1) in
+    omega (arith, rows-fit _ _ (looking-rows (a .pre .0) _ _ _ _ _ (a .pre .1 .0)) (a .args .cpu) h)
+
 -- the place that was found is within the row
-within : (c : tie.Else2) → (1 ≤ c .before .scan .result) × (c .before .scan .result < getD (c .before .before .before .before .before .before .before .before .before .args .counts .now) (c .before .before .before .before .before .before .before .before .before .args .cpu) 0) × (getD (c .before .before .before .before .before .before .before .before .before .args .counts .now) (c .before .before .before .before .before .before .before .before .before .args .cpu) 0 ≤ 512)
+within : (c : tie.Else1) → let a = c .before .before .before .before .before .before .before .before in let at = c .before .scan .result in let count = getD (a .args .counts .now) (a .args .cpu) 0 in (1 ≤ at) × (at < count) × (count ≤ 512)
 within c =
-    let a = c .before .before .before .before .before .before .before .before .before in
+    let a = c .before .before .before .before .before .before .before .before in
     let r = row (a .pre .0) (a .args .cpu) in
     let n = row-count (a .pre .0) _ _ _ _ _ (a .pre .1 .0) (a .args .cpu) (a .pre .1 .1) in
     let found = scanned a (a .pre .0) (a .pre .1 .0) (a .pre .1 .1) (c .before .scan .result) (c .before .scan .ensures) in
     let most = ahead-le (wanted (a .args .masks .now) (a .args .prio .now) (a .args .mask .now) (a .args .best .priority)) (tail r) in
-    let two : 2 ≤ getD (a .args .counts .now) (a .args .cpu) 0 = c .before .before .before .if1 .left in
+    let two : 2 ≤ getD (a .args .counts .now) (a .args .cpu) 0 = a .pre .1 .2 in
     let size : length r ≡ suc (length (tail r)) = nonempty r (omega arith) in
-    (omega arith, omega (arith, c .if2 .left), omega (arith, looking-held (a .pre .0) _ _ _ _ _ (a .pre .1 .0) .order .fits (a .args .cpu)))
+    (omega arith, omega (arith, c .if1 .left), omega (arith, looking-held (a .pre .0) _ _ _ _ _ (a .pre .1 .0) .order .fits (a .args .cpu)))
   where
     nonempty : (r : List ℕ) → 1 ≤ length r → length r ≡ suc (length (tail r))
     nonempty [] h = absurd (not-suc-le-zero h)
     nonempty (x ∷ xs) h = refl
 
 -- and is a task
-task-ok : (c : tie.Else2) → getD (c .before .before .before .before .before .before .before .before .before .args .rows .now) (c .before .before .before .before .before .before .before .before .before .args .cpu * 512 + c .before .scan .result) 0 < 512
+task-ok : (c : tie.Else1) → let a = c .before .before .before .before .before .before .before .before in getD (a .args .rows .now) (a .args .cpu * 512 + c .before .scan .result) 0 < 512
 task-ok c =
-    let a = c .before .before .before .before .before .before .before .before .before in
+    let a = c .before .before .before .before .before .before .before .before in
     let m = a .pre .0 in
     let w = within c in
     let n = row-count m _ _ _ _ _ (a .pre .1 .0) (a .args .cpu) (a .pre .1 .1) in
@@ -95,25 +95,21 @@ mul-count : tie.Need-mul-count
 mul-count c = search needs
 
 shared-slice-read-count : tie.Need-shared-slice-read-count
-shared-slice-read-count c = (omega (arith, looking-cpus (c .before .before .before .before .before .pre .0) _ _ _ _ _ (c .before .before .before .before .before .pre .1 .0), c .before .before .before .before .before .pre .1 .1))
+shared-slice-read-count c =
+    let a = c .before .before .before .before .before in
+    omega (arith, looking-cpus (a .pre .0) _ _ _ _ _ (a .pre .1 .0), a .pre .1 .1)
 
 cast-count : tie.Need-cast-count
 cast-count c = omega (arith, c .shared-slice-known5 .given (c .before .before .before .before .before .args .cpu))
 
-returns : tie.Need-returns
-returns c =
-    λ m k h best.
-    let n = row-count m _ _ _ _ _ k (c .before .before .before .before .before .before .args .cpu) h in
-    keep-best m _ _ _ _ _ k (c .before .before .before .before .before .before .args .cpu) h (c .before .before .before .before .before .before .args .best) best (λ u i. absurd (short (row m (c .before .before .before .before .before .before .args .cpu)) u (omega arith) i))
-
 mul-start : tie.Need-mul-start
-mul-start c = let h : c .before .before .before .before .before .before .args .cpu < length (c .before .before .before .before .before .before .args .counts .now) = omega (arith, looking-cpus (c .before .before .before .before .before .before .pre .0) _ _ _ _ _ (c .before .before .before .before .before .before .pre .1 .0), c .before .before .before .before .before .before .pre .1 .1) in let f = rows-fit _ _ (looking-rows (c .before .before .before .before .before .before .pre .0) _ _ _ _ _ (c .before .before .before .before .before .before .pre .1 .0)) (c .before .before .before .before .before .before .args .cpu) h in omega arith
+mul-start c = let f = fits (c .before .before .before .before .before) in omega arith
 
 add-scan : tie.Need-add-scan
-add-scan c = let h : c .before .before .before .before .before .before .args .cpu < length (c .before .before .before .before .before .before .args .counts .now) = omega (arith, looking-cpus (c .before .before .before .before .before .before .pre .0) _ _ _ _ _ (c .before .before .before .before .before .before .pre .1 .0), c .before .before .before .before .before .before .pre .1 .1) in let f = rows-fit _ _ (looking-rows (c .before .before .before .before .before .before .pre .0) _ _ _ _ _ (c .before .before .before .before .before .before .pre .1 .0)) (c .before .before .before .before .before .before .args .cpu) h in omega arith
+add-scan c = let f = fits (c .before .before .before .before .before) in omega arith
 
 mul-scan : tie.Need-mul-scan
-mul-scan c = let h : c .before .before .before .before .before .before .args .cpu < length (c .before .before .before .before .before .before .args .counts .now) = omega (arith, looking-cpus (c .before .before .before .before .before .before .pre .0) _ _ _ _ _ (c .before .before .before .before .before .before .pre .1 .0), c .before .before .before .before .before .before .pre .1 .1) in let f = rows-fit _ _ (looking-rows (c .before .before .before .before .before .before .pre .0) _ _ _ _ _ (c .before .before .before .before .before .before .pre .1 .0)) (c .before .before .before .before .before .before .args .cpu) h in omega arith
+mul-scan c = let f = fits (c .before .before .before .before .before) in omega arith
 
 sub-scan : tie.Need-sub-scan
 sub-scan c = omega arith
@@ -122,44 +118,46 @@ part-scan-start : tie.Need-part-scan-start
 part-scan-start c = omega arith
 
 part-scan-end : tie.Need-part-scan-end
-part-scan-end c = let h : c .before .before .before .before .before .before .args .cpu < length (c .before .before .before .before .before .before .args .counts .now) = omega (arith, looking-cpus (c .before .before .before .before .before .before .pre .0) _ _ _ _ _ (c .before .before .before .before .before .before .pre .1 .0), c .before .before .before .before .before .before .pre .1 .1) in let f = rows-fit _ _ (looking-rows (c .before .before .before .before .before .before .pre .0) _ _ _ _ _ (c .before .before .before .before .before .before .pre .1 .0)) (c .before .before .before .before .before .before .args .cpu) h in omega arith
+part-scan-end c = let f = fits (c .before .before .before .before .before) in omega arith
 
 scan-requires : tie.Need-scan-requires
 scan-requires c κs =
-    let a = c .before .before .before .before .before .before .before in
-    let n = row-count (a .pre .0) _ _ _ _ _ (a .pre .1 .0) (a .args .cpu) (a .pre .1 .1) in
+    let a = c .before .before .before .before .before .before in
     as-counted (a .args .cpu) (λ (s k : ℕ). Searchable (a .args .prio .now) (a .args .mask .now) (take k (drop s (a .args .rows .now))) (getD (a .args .counts .now) (a .args .cpu) 0))
-    (searchable (a .pre .0) _ _ _ _ _ (a .pre .1 .0) (a .args .cpu) (a .pre .1 .1) (omega arith))
+    (searchable (a .pre .0) _ _ _ _ _ (a .pre .1 .0) (a .args .cpu) (a .pre .1 .1) (omega (arith, a .pre .1 .2)))
 
-returns-2 : tie.Need-returns-2
-returns-2 c =
+returns : tie.Need-returns
+returns c =
     λ m k h best.
-    let a = c .before .before .before .before .before .before .before .before .before in
+    let a = c .before .before .before .before .before .before .before .before in
     let r = row m (a .args .cpu) in
     let n = row-count m _ _ _ _ _ k (a .args .cpu) h in
     let found : c .before .scan .result ≡ suc (ahead (wanted (a .args .masks .now) (a .args .prio .now) (a .args .mask .now) (a .args .best .priority)) (tail r)) = scanned a m k h (c .before .scan .result) (c .before .scan .ensures) in
     keep-best m _ _ _ _ _ k (a .args .cpu) h (a .args .best) best
-    (none-wanted (wanted (a .args .masks .now) (a .args .prio .now) (a .args .mask .now) (a .args .best .priority)) r (omega (arith, c .if2 .taken)))
+    (none-wanted (wanted (a .args .masks .now) (a .args .prio .now) (a .args .mask .now) (a .args .best .priority)) r (omega (arith, c .if1 .taken)))
 
 add-task : tie.Need-add-task
-add-task c = let h : c .before .before .before .before .before .before .before .before .before .args .cpu < length (c .before .before .before .before .before .before .before .before .before .args .counts .now) = omega (arith, looking-cpus (c .before .before .before .before .before .before .before .before .before .pre .0) _ _ _ _ _ (c .before .before .before .before .before .before .before .before .before .pre .1 .0), c .before .before .before .before .before .before .before .before .before .pre .1 .1) in let f = rows-fit _ _ (looking-rows (c .before .before .before .before .before .before .before .before .before .pre .0) _ _ _ _ _ (c .before .before .before .before .before .before .before .before .before .pre .1 .0)) (c .before .before .before .before .before .before .before .before .before .args .cpu) h in let w = within c in omega arith
+add-task c = let f = fits (c .before .before .before .before .before .before .before .before) in let w = within c in omega arith
 
 mul-task : tie.Need-mul-task
-mul-task c = let h : c .before .before .before .before .before .before .before .before .before .args .cpu < length (c .before .before .before .before .before .before .before .before .before .args .counts .now) = omega (arith, looking-cpus (c .before .before .before .before .before .before .before .before .before .pre .0) _ _ _ _ _ (c .before .before .before .before .before .before .before .before .before .pre .1 .0), c .before .before .before .before .before .before .before .before .before .pre .1 .1) in let f = rows-fit _ _ (looking-rows (c .before .before .before .before .before .before .before .before .before .pre .0) _ _ _ _ _ (c .before .before .before .before .before .before .before .before .before .pre .1 .0)) (c .before .before .before .before .before .before .before .before .before .args .cpu) h in let w = within c in omega arith
+mul-task c = let f = fits (c .before .before .before .before .before .before .before .before) in let w = within c in omega arith
 
 shared-slice-read-task : tie.Need-shared-slice-read-task
-shared-slice-read-task c = let h : c .before .before .before .before .before .before .before .before .before .before .args .cpu < length (c .before .before .before .before .before .before .before .before .before .before .args .counts .now) = omega (arith, looking-cpus (c .before .before .before .before .before .before .before .before .before .before .pre .0) _ _ _ _ _ (c .before .before .before .before .before .before .before .before .before .before .pre .1 .0), c .before .before .before .before .before .before .before .before .before .before .pre .1 .1) in let f = rows-fit _ _ (looking-rows (c .before .before .before .before .before .before .before .before .before .before .pre .0) _ _ _ _ _ (c .before .before .before .before .before .before .before .before .before .before .pre .1 .0)) (c .before .before .before .before .before .before .before .before .before .before .args .cpu) h in let w = within (c .before) in omega arith
+shared-slice-read-task c = let f = fits (c .before .before .before .before .before .before .before .before .before) in let w = within (c .before) in omega arith
 
 cast-priority : tie.Need-cast-priority
-cast-priority c = omega (arith, c .shared-slice-known6 .given (c .before .before .before .before .before .before .before .before .before .before .args .cpu * 512 + c .before .before .scan .result))
+cast-priority c = omega (arith, c .shared-slice-known6 .given (c .before .before .before .before .before .before .before .before .before .args .cpu * 512 + c .before .before .scan .result))
 
 shared-slice-read-priority : tie.Need-shared-slice-read-priority
-shared-slice-read-priority c = let t = task-ok (c .before .before) in omega (arith, t, ap length (c .before .before .before .before .before .before .before .before .before .before .before .pre .1 .0 .prio), c .before .before .before .before .before .before .before .before .before .before .before .pre .1 .0 .well .shape .prio)
+shared-slice-read-priority c =
+    let k = c .before .before .before .before .before .before .before .before .before .before .pre .1 .0 in
+    let t = task-ok (c .before .before) in
+    omega (arith, t, ap length (k .prio), k .well .shape .prio)
 
-returns-3 : tie.Need-returns-3
-returns-3 c =
+returns-2 : tie.Need-returns-2
+returns-2 c =
     λ m k h best.
-    let a = c .before .before .before .before .before .before .before .before .before .before .before in
+    let a = c .before .before .before .before .before .before .before .before .before .before in
     let r = row m (a .args .cpu) in
     let at = c .before .before .before .scan .result in
     let n = row-count m _ _ _ _ _ k (a .args .cpu) h in
@@ -177,7 +175,6 @@ better-spec =
     mul-count
     shared-slice-read-count
     cast-count
-    returns
     mul-start
     add-scan
     mul-scan
@@ -185,10 +182,10 @@ better-spec =
     part-scan-start
     part-scan-end
     scan-requires
-    returns-2
+    returns
     add-task
     mul-task
     shared-slice-read-task
     cast-priority
     shared-slice-read-priority
-    returns-3)
+    returns-2)

@@ -1,46 +1,80 @@
--- `mover::pick::pick` meets its contract. The loop's invariant: the best of the rows passed. Assumes nothing.
-use mathlib.Core.Path.{_≡_, sym, subst}
-use Prim.Native.Nat.{ℕ, _-_, _≤_}
+-- `mover::pick::pick` meets its contract. The loop's invariant: the best of the rows passed, and a task waits on the CPU at hand. Assumes nothing.
+use mathlib.Core.Path.{_≡_, sym, _∙_, subst}
+use Prim.Native.Nat.{ℕ, _-_, _≤_, _<_}
 use native.Mathlib.Numerals.{add-one}
 use native.Mathlib.Nat.{not-suc-le-zero}
 use native.Mathlib.Omega.{arith}
+use lib.ListN.{length, getD}
 use Rattle.rules.specs.Machine.{Machine}
 use Rattle.mover.specs.Foremost.{Looking, BestOf}
+use Rattle.mover.proofs.Candidates.{looking-cpus, skip-best}
 use Rattle.mover.proofs.pick.pick.Statement.{statement}
 use Rattle.mover.proofs.pick.pick.Tie as tie
 
 abbrev Inv-loop : tie.InvT-loop
-Inv-loop n prio mask rows counts masks best₀ cpu₀ best cpu = (cpu ≤ n) × ((m : Machine) → Looking m prio mask counts rows masks → n ≡ m .n → BestOf m cpu best)
+Inv-loop n prio mask rows counts masks best₀ cpu₀ best cpu = (cpu ≤ n) × (cpu < n → 2 ≤ getD counts cpu 0) × ((m : Machine) → Looking m prio mask counts rows masks → n ≡ m .n → BestOf m cpu best)
 
 abbrev μ-loop : tie.MeasureT-loop
 μ-loop n prio mask rows counts masks best₀ cpu₀ best cpu = n - cpu
 
+-- there is a count for each CPU
+counted : (a : tie.Start Inv-loop μ-loop) → a .args .n ≡ length (a .args .counts .now)
+counted a = a .pre .1 .1 ∙ sym (looking-cpus (a .pre .0) _ _ _ _ _ (a .pre .1 .0))
+
+next-waiting-requires : tie.Need-next-waiting-requires Inv-loop μ-loop
+next-waiting-requires c κs = let e = counted (c .before .before .before .before) in (omega arith, omega arith)
+
 loop-holds : tie.Need-loop-holds Inv-loop μ-loop
-loop-holds c = (omega arith, (λ m k e. record { none = λ z d h. absurd (not-suc-le-zero h); some = λ p. absurd (not-suc-le-zero p) }))
+loop-holds c =
+    let next = c .next-waiting .ensures in (
+      next .most,
+      next .some,
+      λ m k e. skip-best m _ _ _ _ _ k _ 0 _ _ e next (record { none = λ z d h. absurd (not-suc-le-zero h); some = λ p. absurd (not-suc-le-zero p) }),
+    )
 
 better-requires : tie.Need-better-requires Inv-loop μ-loop
-better-requires c κs = (c .before .before .before .before .before .before .pre .0, (c .before .before .before .before .before .before .pre .1 .0, omega (arith, c .before .before .before .before .before .before .pre .1 .1)))
+better-requires c κs =
+    let a = c .before .before .before .before .before .before .before in
+    (a .pre .0, (a .pre .1 .0, omega (arith, a .pre .1 .1), c .before .loop .inv .1 (omega arith)))
 
-add-cpu : tie.Need-add-cpu Inv-loop μ-loop
-add-cpu c = omega arith
+add-next-waiting : tie.Need-add-next-waiting Inv-loop μ-loop
+add-next-waiting c = omega arith
+
+next-waiting-requires-2 : tie.Need-next-waiting-requires-2 Inv-loop μ-loop
+next-waiting-requires-2 c κs = let e = counted (c .before .before .before .before .before .before .before .before) in (omega arith, omega arith)
 
 loop-less : tie.Need-loop-less Inv-loop μ-loop
-loop-less c = omega arith
+loop-less c = omega (arith, c .next-waiting2 .ensures .low, c .next-waiting2 .ensures .most)
 
 loop-again : tie.Need-loop-again Inv-loop μ-loop
-loop-again c = (
-  omega arith,
-  λ m k e.
-      subst (λ (i : ℕ). BestOf m i (c .better .result)) (sym (add-one (c .before .before .loop .cpu)))
-      (c .better .ensures m k (omega (arith, c .before .loop-test .taken)) (c .before .before .loop .inv .1 m k e)),
-)
+loop-again c =
+    let next = c .next-waiting2 .ensures in
+    let l = c .before .before .before .loop in (
+      next .most,
+      next .some,
+      λ m k e.
+          skip-best m _ _ _ _ _ k _ _ _ _ e next
+          (subst (λ (i : ℕ). BestOf m i (c .before .better .result)) (sym (add-one (l .cpu)))
+          (c .before .better .ensures m k (omega (arith, c .before .before .loop-test .taken)) (l .inv .2 m k e))),
+    )
 
 returns : tie.Need-returns Inv-loop μ-loop
 returns c =
-    let all : c .before .loop .cpu ≡ c .before .before .before .before .before .before .args .n = omega arith in
-    λ m k e. subst (λ (i : ℕ). BestOf m i (c .before .loop .best)) all (c .before .loop .inv .1 m k e)
+    let l = c .before .loop in
+    let all : l .cpu ≡ c .before .before .before .before .before .before .before .args .n = omega arith in
+    λ m k e. subst (λ (i : ℕ). BestOf m i (l .best)) all (l .inv .2 m k e)
 
 pub pick-spec : {M : Type 1} → statement M
 pick-spec =
     tie.close
-    (tie.spec Inv-loop μ-loop loop-holds better-requires add-cpu loop-less loop-again returns)
+    (tie.spec
+    Inv-loop
+    μ-loop
+    next-waiting-requires
+    loop-holds
+    better-requires
+    add-next-waiting
+    next-waiting-requires-2
+    loop-less
+    loop-again
+    returns)

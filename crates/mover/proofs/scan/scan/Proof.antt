@@ -118,7 +118,7 @@ returns c =
     let a = c .before .before .before .before .before .before .before .before in
     let l = c .before .before .before .before .loop in
     sym (scan-is (a .args .masks .now) (a .args .prio .now) (a .args .mask .now) (a .args .row .now) (a .args .count) (a .args .floor) (a .pre) (a .args .count) (a .pre .some) (omega arith)
-    (λ k h m. past (a .args .masks .now) (a .args .prio .now) (a .args .mask .now) (a .args .row .now) (a .args .count) (a .args .floor) (a .pre) (l .at) (omega arith) (l .inv .2) (c .if1 .taken) k h m) (λ h. absurd (self h)))
+    (λ k h m. past (a .args .masks .now) (a .args .prio .now) (a .args .mask .now) (a .args .row .now) (a .args .count) (a .args .floor) (a .pre) (l .at) (omega arith) (l .inv .2) (omega arith) k h m) (λ h. absurd (self h)))
 
 mul-has-lower-cpu : tie.Need-mul-has-lower-cpu Inv-loop μ-loop
 mul-has-lower-cpu c = let p = c .before .before .before .before .before .before .before .before .pre in omega (arith, p .tasks (c .before .before .before .before .loop .at) (omega arith))
