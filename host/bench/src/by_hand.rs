@@ -9,47 +9,17 @@ pub struct ByHand {
     start: (plain::Tables, Record),
     tables: plain::Tables,
     record: Record,
-    shape: Shape,
-}
-
-/// How the plain version is written.
-#[derive(Clone, Copy, PartialEq, Eq)]
-pub enum Shape {
-    /// As one would write it.
-    Natural,
-    /// The inner event has the record in and back by value.
-    ByValue,
-    /// The check looks at unused places one by one.
-    OneByOne,
 }
 
 impl ByHand {
-    pub fn new(start: &Tables, shape: Shape) -> ByHand {
+    pub fn new(start: &Tables) -> ByHand {
         let start = (tables(start), record(start));
         let (tables, record) = start.clone();
         ByHand {
             start,
             tables,
             record,
-            shape,
         }
-    }
-
-    fn check(&self) -> u8 {
-        match self.shape {
-            Shape::OneByOne => plain::check_one_by_one(&self.tables, &self.record),
-            _ => plain::check(&self.tables, &self.record),
-        }
-    }
-
-    fn inner(&mut self, e: &plain::Event) -> plain::Outcome {
-        if self.shape != Shape::ByValue {
-            return plain::handle(&mut self.tables, &mut self.record, e);
-        }
-        let record = self.record.clone();
-        let (outcome, record) = plain::handle_by_value(&mut self.tables, record, e);
-        self.record = record;
-        outcome
     }
 }
 
@@ -61,13 +31,16 @@ impl Side for ByHand {
 
     fn run(&mut self, work: &Work) -> u64 {
         match work {
-            Work::Check(times) => sum((0..*times).map(|_| black_box(&*self).check().into())),
+            Work::Check(times) => sum((0..*times).map(|_| {
+                let side = black_box(&*self);
+                plain::check(&side.tables, &side.record).into()
+            })),
             Work::Events(events) => sum(events.iter().map(|e| {
                 let o = plain::event(&mut self.tables, &mut self.record, &event(e));
                 outcome(o.answer, o.moves)
             })),
             Work::Inner(events) => sum(events.iter().map(|e| {
-                let o = self.inner(&event(e));
+                let o = plain::handle(&mut self.tables, &mut self.record, &event(e));
                 outcome(o.answer, o.moves)
             })),
             Work::Find { times, level, mask } => sum((0..*times).map(|_| {

@@ -1,6 +1,6 @@
 //! The finder, with its check of the record.
 
-use crate::by_hand::{ByHand, Shape};
+use crate::by_hand::ByHand;
 use crate::machines::{busy, idle};
 use crate::ours::Ours;
 use crate::say::say;
@@ -50,7 +50,7 @@ pub fn find(run: &mut Run) {
 fn sides(start: &Tables) -> Vec<Box<dyn Side>> {
     vec![
         Box::new(Ours::new(start)),
-        Box::new(ByHand::new(start, Shape::Natural)),
+        Box::new(ByHand::new(start)),
         Box::new(Second::new(start)),
     ]
 }

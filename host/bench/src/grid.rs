@@ -1,6 +1,6 @@
 //! Check, event and inner event over machines of several sizes, and how their cost grows.
 
-use crate::by_hand::{ByHand, Shape};
+use crate::by_hand::ByHand;
 use crate::keep::Row;
 use crate::machines::{mixed, Scene};
 use crate::ours::Ours;
@@ -47,29 +47,19 @@ fn measure(
     points
 }
 
-/// The library, the plain version and the second scheduler.
+/// The library and the plain version.
+pub fn two(scene: &Scene) -> Vec<Box<dyn Side>> {
+    vec![
+        Box::new(Ours::new(&scene.start)),
+        Box::new(ByHand::new(&scene.start)),
+    ]
+}
+
+/// Those and the second scheduler.
 fn three(scene: &Scene) -> Vec<Box<dyn Side>> {
-    vec![
-        Box::new(Ours::new(&scene.start)),
-        Box::new(ByHand::new(&scene.start, Shape::Natural)),
-        Box::new(Second::new(&scene.start)),
-    ]
-}
-
-/// Those, and the plain version with the check that looks at unused places one by one.
-fn four(scene: &Scene) -> Vec<Box<dyn Side>> {
-    let mut sides = three(scene);
-    sides.push(Box::new(ByHand::new(&scene.start, Shape::OneByOne)));
+    let mut sides = two(scene);
+    sides.push(Box::new(Second::new(&scene.start)));
     sides
-}
-
-/// The library, and the plain version with the record by reference and by value.
-pub fn shapes(scene: &Scene) -> Vec<Box<dyn Side>> {
-    vec![
-        Box::new(Ours::new(&scene.start)),
-        Box::new(ByHand::new(&scene.start, Shape::Natural)),
-        Box::new(ByHand::new(&scene.start, Shape::ByValue)),
-    ]
 }
 
 /// The bytes that a check has to read.
@@ -82,7 +72,7 @@ fn bytes(n: usize) -> usize {
 
 pub fn check(run: &mut Run) {
     say("Check of all tables, ns a call\n");
-    let points = measure(run, "check", four, |_| Work::Check(4));
+    let points = measure(run, "check", three, |_| Work::Check(4));
     let head = [
         "N",
         "tasks",
@@ -91,8 +81,6 @@ pub fn check(run: &mut Run) {
         "library/plain",
         "second",
         "second/library",
-        "plain, one by one",
-        "library/it",
         "bytes",
         "bytes/ns",
     ];
@@ -100,8 +88,6 @@ pub fn check(run: &mut Run) {
     for p in &points {
         let read = bytes(p.n);
         let mut cells = against_second(p);
-        cells.push(ns(p.row.times[3]));
-        cells.push(ratio(p.row.times[0], p.row.times[3]));
         cells.push(read.to_string());
         cells.push(format!("{:.2}", read as f64 / p.row.times[0]));
         table.row(cells);
@@ -133,52 +119,29 @@ pub fn event(run: &mut Run) {
 }
 
 fn against_second(p: &Point) -> Vec<String> {
-    let (ours, plain, second) = (p.row.times[0], p.row.times[1], p.row.times[2]);
-    vec![
-        p.n.to_string(),
-        p.tasks.to_string(),
-        ns(ours),
-        ns(plain),
-        to_plain(&p.row),
-        ns(second),
-        ratio(second, ours),
-    ]
+    let mut cells = vec![p.n.to_string(), p.tasks.to_string()];
+    cells.extend(against_plain(&p.row));
+    cells.push(ns(p.row.times[2]));
+    cells.push(ratio(p.row.times[2], p.row.times[0]));
+    cells
 }
 
 pub fn inner(run: &mut Run) {
     say("Inner event (tables not checked), the same mix, ns an event\n");
-    let points = measure(run, "inner", shapes, |scene| {
-        Work::Inner(scene.events.clone())
-    });
-    let head = [
-        "N",
-        "tasks",
-        "library",
-        "plain",
-        "library/plain",
-        "plain, record by value",
-        "library/it",
-    ];
+    let points = measure(run, "inner", two, |scene| Work::Inner(scene.events.clone()));
+    let head = ["N", "tasks", "library", "plain", "library/plain"];
     let mut table = Table::new(&head);
     for p in &points {
         let mut cells = vec![p.n.to_string(), p.tasks.to_string()];
-        cells.extend(shape_cells(&p.row));
+        cells.extend(against_plain(&p.row));
         table.row(cells);
     }
     table.print();
     growth(&points);
 }
 
-/// The times of `shapes`.
-pub fn shape_cells(row: &Row) -> Vec<String> {
-    let times = &row.times;
-    vec![
-        ns(times[0]),
-        ns(times[1]),
-        to_plain(row),
-        ns(times[2]),
-        ratio(times[0], times[2]),
-    ]
+pub fn against_plain(row: &Row) -> Vec<String> {
+    vec![ns(row.times[0]), ns(row.times[1]), to_plain(row)]
 }
 
 /// What a CPU more and a task more cost, from the ends of the grid.

@@ -1,6 +1,6 @@
 //! Inner events that cost the most.
 
-use crate::grid::{shape_cells, shapes};
+use crate::grid::{against_plain, two};
 use crate::machines::{chain, full_row, yields, Scene};
 use crate::say::say;
 use crate::side::Work;
@@ -9,14 +9,7 @@ use crate::timing::Run;
 
 pub fn worst(run: &mut Run) {
     say("Inner event, worst cases, ns an event\n");
-    let head = [
-        "case",
-        "library",
-        "plain",
-        "library/plain",
-        "plain, record by value",
-        "library/it",
-    ];
+    let head = ["case", "library", "plain", "library/plain"];
     let mut table = Table::new(&head);
     let cases: [(&str, Scene); 5] = [
         ("63 moves on 64 CPUs", chain(false)),
@@ -27,9 +20,9 @@ pub fn worst(run: &mut Run) {
     ];
     for (name, scene) in cases {
         let work = Work::Inner(scene.events.clone());
-        let row = run.row(format!("worst {name}"), &mut shapes(&scene), &work);
+        let row = run.row(format!("worst {name}"), &mut two(&scene), &work);
         let mut cells = vec![name.to_string()];
-        cells.extend(shape_cells(&row));
+        cells.extend(against_plain(&row));
         table.row(cells);
     }
     table.print();

@@ -8,28 +8,13 @@ use crate::tables::{Tables, ASLEEP, FREE, FULL_SLICE, NOTHING, RUNNABLE, TASKS};
 /// Which tasks stand in rows, 64 to a word.
 type Placed = [u64; TASKS / 64];
 
-/// 0, 1 or 2. It looks at all unused places of a row before it decides, which the compiler makes many at a time:
-/// 65535 has every bit.
+/// 0, 1 or 2.
 pub fn check(t: &Tables, record: &Record) -> u8 {
-    checked(t, record, |unused| {
-        unused.iter().fold(NOTHING, |all, &place| all & place) == NOTHING
-    })
-}
-
-/// As `check`, one unused place after another up to the first wrong one.
-pub fn check_one_by_one(t: &Tables, record: &Record) -> u8 {
-    checked(t, record, |unused| {
-        unused.iter().all(|&place| place == NOTHING)
-    })
-}
-
-/// The check, given what says that all unused places of a row hold nothing.
-fn checked(t: &Tables, record: &Record, empty: impl Fn(&[u16]) -> bool) -> u8 {
     if !t.lengths_fit() {
         return 1;
     }
     let mut placed = [0; TASKS / 64];
-    let fits = (0..t.n).all(|cpu| row_fits(t, record, cpu, &mut placed, &empty))
+    let fits = (0..t.n).all(|cpu| row_fits(t, record, cpu, &mut placed))
         && columns_fit(t, &placed)
         && is_consistent(t.n, record);
     if fits {
@@ -39,13 +24,7 @@ fn checked(t: &Tables, record: &Record, empty: impl Fn(&[u16]) -> bool) -> u8 {
     }
 }
 
-fn row_fits(
-    t: &Tables,
-    record: &Record,
-    cpu: usize,
-    placed: &mut Placed,
-    empty: impl Fn(&[u16]) -> bool,
-) -> bool {
+fn row_fits(t: &Tables, record: &Record, cpu: usize, placed: &mut Placed) -> bool {
     let count = t.counts[cpu] as usize;
     if count > TASKS || t.flags[cpu] > 1 {
         return false;
@@ -59,6 +38,12 @@ fn row_fits(
         None => t.flags[cpu],
     };
     record.levels[cpu] == level
+}
+
+/// No unused place of a row holds a task. It looks at all of them before it decides, which the compiler makes many at a
+/// time: 65535 has every bit.
+fn empty(unused: &[u16]) -> bool {
+    unused.iter().fold(NOTHING, |all, &place| all & place) == NOTHING
 }
 
 /// Each task of a row may stand there, and stood in none before.

@@ -39,10 +39,3 @@ pub fn handle(t: &mut Tables, record: &mut Record, e: &Event) -> Outcome {
         Err(answer) => Outcome { answer, moves: 0 },
     }
 }
-
-/// As `handle`, with the record handed in and back whole.
-#[inline(never)]
-pub fn handle_by_value(t: &mut Tables, mut record: Record, e: &Event) -> (Outcome, Record) {
-    let outcome = handle(t, &mut record, e);
-    (outcome, record)
-}
