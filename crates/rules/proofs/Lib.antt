@@ -20,5 +20,6 @@ pub mod Record
 pub mod Finder
 pub mod Log
 pub mod Entry
+pub mod First
 pub mod LentDemand3
 pub mod LentCase

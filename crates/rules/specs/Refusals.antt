@@ -4,7 +4,8 @@
 use mathlib.Core.Path.{_≡_}
 use mathlib.Core.Bool.{Bool, true, false, _&&_, _||_, not}
 use mathlib.Core.List.{List, [], _∷_}
-use Prim.Native.Nat.{ℕ}
+use mathlib.Core.Logic.{_⊎_}
+use Prim.Native.Nat.{ℕ, _≤_}
 use lib.Dec.{eqb, leb}
 pub use Rattle.cpupri.specs.Found.{Check}
 unfoldable pub use Rattle.cpupri.specs.Found.{refusal as firstFailing}
@@ -49,6 +50,20 @@ abbrev pub Passes : List Check → Type 0
 Passes [] = Unit {0}
 Passes (c ∷ cs) = (c .fails ≡ false) × Passes cs
 
+-- the number k applies: a check of this number fails
+abbrev pub Applies : ℕ → List Check → Type 0
+Applies k [] = ⊥
+Applies k (c ∷ cs) = ((c .fails ≡ true) × (c .number ≡ k)) ⊎ Applies k cs
+
+-- k is the first number that applies
+pub record First (k : ℕ) (cs : List Check) : Type 0 where
+  pub applies : Applies k cs
+  pub least : (j : ℕ) → Applies j cs → k ≤ j
+
+-- the one check of a number that is no kind
+abbrev pub noKind : Check
+noKind = record { number = unknownKind; fails = true }
+
 module _ (m : Machine) (e : Event) where
   abbrev noTask : Check
   noTask = record { number = badNumber; fails = leb taskPlaces (e .who) }
@@ -92,6 +107,10 @@ module _ (m : Machine) (e : Event) where
   checks tick = noCpu ∷ []
   checks yield = noCpu ∷ nothingRuns ∷ []
   checks set-ordinary = noCpu ∷ noFlag ∷ []
+
+  -- the checks of an event
+  abbrev pub eventChecks : List Check
+  eventChecks = byKind (noKind ∷ []) checks (kindOf (e .kind))
 
 -- the answer, of a well-formed machine
 abbrev pub refusal : Machine → Event → ℕ
