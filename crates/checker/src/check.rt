@@ -93,5 +93,12 @@ pub fn tables_fit(
         return false;
     }
     let marks = placed.marks;
-    columns_fit(n, state, policy, prio, cpu, slice, mask, &marks) & is_consistent(n, record)
+    let consistent = is_consistent(
+        n,
+        &record.masks,
+        &record.counts,
+        &record.words,
+        &record.levels,
+    );
+    columns_fit(n, state, policy, prio, cpu, slice, mask, &marks) & consistent
 }

@@ -2,51 +2,55 @@
 // that they determine, and one over the levels, which compares.
 ghost use mathlib.Core.Path.{_≡_};
 ghost use mathlib.Core.Bool.{true, _&&_, Bool·beq};
-ghost use Prim.Native.Nat.{_<_};
+ghost use mathlib.Core.List.{List, []};
+ghost use Prim.Native.Nat.{ℕ, _<_};
 ghost use lib.Dec.{eqb};
+ghost use lib.ListN.{length};
 ghost use Rattle.bits.specs.Bit.{bit, weight};
 ghost use Rattle.levels.specs.Level.{cpuPlaces};
-ghost use Rattle.levels.specs.Record.{masksOf, active};
-ghost use Rattle.consistency.specs.Consistent.{levelFits, levelsFit, joined, agrees, consistent};
+ghost use Rattle.levels.specs.Record.{lentRecord, masksOf, active};
+ghost use Rattle.consistency.specs.Consistent.{levelFits, levelsFit, joined, agrees, consistent, Sized};
 use levels::level::Level;
 use levels::record::CPUS;
 use levels::record::LEVELS;
-use levels::record::Record;
+use levels::record::WORDS;
 
 // Whether the masks, counts, words and levels of a record say the same, for n CPUs.
-pub fn is_consistent(n: usize, r: Record) -> bool
-    ensures { λ b. ⌜ b ≡ consistent n r ⌝ }
+pub fn is_consistent<'a>(
+    n: usize,
+    masks: &'a [u64; LEVELS],
+    counts: &'a [u8; LEVELS],
+    words: &'a [u64; WORDS],
+    levels: &'a [u8; CPUS],
+) -> bool
+    requires { ⌜ Sized (lentRecord (now masks) (now counts) (now words) (now levels)) ⌝ }
+    ensures { λ b. ⌜ b ≡ consistent n (lentRecord (now (masks .entry)) (now (counts .entry)) (now (words .entry)) (now (levels .entry))) ⌝ }
 {
-    let levels = r.levels;
-    let gathered = gather(n, levels);
-    if gathered.fit {
-        parts_agree(r, &gathered.masks)
+    let mut right = [0; LEVELS];
+    if gather(n, levels, &mut right) {
+        parts_agree(masks, counts, words, &right)
     } else {
         false
     }
 }
 
-// Whether all levels fit and, if so, the masks that they determine.
-struct Gathered {
-    fit: bool,
-    masks: [u64; LEVELS],
-}
-
-fn gather(n: usize, levels: [u8; CPUS]) -> Gathered
-    ensures { λ g. ⌜ g .fit ≡ levelsFit n levels ⌝ }
-    ensures { λ g. ⌜ (levelsFit n levels ≡ true → g .masks ≡ masksOf levels) ⌝ }
+// Whether all levels fit; and puts each CPU into the mask of its level, up to the first that does not fit.
+fn gather(n: usize, levels: &[u8; CPUS], right: &mut [u64; LEVELS]) -> bool
+    requires { ⌜ length (now levels) ≡ cpuPlaces ⌝ }
+    requires { ⌜ now right ≡ masksOf [] ⌝ }
+    ensures { λ b. ⌜ b ≡ levelsFit n (now (levels .entry)) ⌝ }
+    ensures { λ b. ⌜ (levelsFit n (now (levels .entry)) ≡ true → now (right .exit) ≡ masksOf (now (levels .entry))) ⌝ }
 {
-    let mut masks = [0; LEVELS];
     let mut cpu = 0;
     while cpu < CPUS {
         let level = levels[cpu];
         if !level_fits(n, cpu, level) {
-            return Gathered { fit: false, masks };
+            return false;
         }
-        join(&mut masks, cpu, level);
+        join(right, cpu, level);
         cpu += 1;
     }
-    Gathered { fit: true, masks }
+    true
 }
 
 // Whether CPU place `cpu` of a machine of n CPUs may hold this level.
@@ -73,27 +77,25 @@ fn join(masks: &mut [u64; LEVELS], cpu: usize, level: u8)
     }
 }
 
-// Whether masks, counts and words are what the levels determine; `masks` are the levels' masks.
-fn parts_agree(r: Record, masks: &[u64; LEVELS]) -> bool
-    requires { ⌜ now masks ≡ masksOf (r .levels) ⌝ }
-    ensures { λ b. ⌜ b ≡ agrees r ⌝ }
+// Whether masks, counts and words are what levels determine whose masks are `right`.
+fn parts_agree(
+    masks: &[u64; LEVELS],
+    counts: &[u8; LEVELS],
+    words: &[u64; WORDS],
+    right: &[u64; LEVELS],
+) -> bool
+    ensures { λ b. ⌜ ((levels : List ℕ) → Sized (lentRecord (now (masks .entry)) (now (counts .entry)) (now (words .entry)) levels) → now (right .entry) ≡ masksOf levels → b ≡ agrees (lentRecord (now (masks .entry)) (now (counts .entry)) (now (words .entry)) levels)) ⌝ }
 {
     let mut level = 0;
     while level < LEVELS {
-        let word = r.words[level / 64];
-        if !level_agrees(
-            masks[level],
-            r.masks[level],
-            r.counts[level],
-            word,
-            level % 64,
-        ) {
+        let word = words[level / 64];
+        if !level_agrees(right[level], masks[level], counts[level], word, level % 64) {
             return false;
         }
         level += 1;
     }
     // bits 102 to 127
-    r.words[1] >> 38 == 0
+    words[1] >> 38 == 0
 }
 
 // Whether one level's mask is the right one, its count counts the mask, and its bit is set exactly

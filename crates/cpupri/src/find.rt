@@ -28,7 +28,7 @@ pub fn find(n: usize, r: Record, level: u32, mask: u64) -> Found
     if !((0 < n) & (n <= CPUS)) {
         return Found::Refused(1);
     }
-    if !is_consistent(n, r) {
+    if !is_consistent(n, &r.masks, &r.counts, &r.words, &r.levels) {
         return Found::Refused(2);
     }
     let asked = level as usize;

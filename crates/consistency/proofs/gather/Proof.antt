@@ -23,27 +23,26 @@ none : {k : ℕ} → k < 0 → ⊥
 none h = omega arith
 
 abbrev Inv-loop : tie.InvT-loop
-Inv-loop n levels masks₀ cpu₀ masks cpu = (cpu ≤ 64) × ((k : ℕ) → k < cpu → levelFits n k (getD levels k 0) ≡ true) × (masks ≡ masksOf (take cpu levels))
+Inv-loop n levels right₀ cpu₀ right cpu = (cpu ≤ 64) × ((k : ℕ) → k < cpu → levelFits n k (getD levels k 0) ≡ true) × (right ≡ masksOf (take cpu levels))
 
 abbrev μ-loop : tie.MeasureT-loop
-μ-loop n levels masks₀ cpu₀ masks cpu = 64 - cpu
+μ-loop n levels right₀ cpu₀ right cpu = 64 - cpu
 
 loop-holds : tie.Need-loop-holds Inv-loop μ-loop
-unfolding table masksOf maskAt packed
-loop-holds c = (omega arith, (λ k h. absurd (none h)), refl)
+loop-holds c = (omega arith, (λ k h. absurd (none h)), c .pre .1)
 
-array-read-level : tie.Need-array-read-level Inv-loop μ-loop
-array-read-level c = omega arith
+element-copy-out-level : tie.Need-element-copy-out-level Inv-loop μ-loop
+element-copy-out-level c = omega arith
 
 level-fits-requires : tie.Need-level-fits-requires Inv-loop μ-loop
 level-fits-requires c κs = search needs
 
 returns : tie.Need-returns Inv-loop μ-loop
 returns c =
-    let levels = c .before .before .before .before .args .t2 in
-    let cpu = c .before .before .before .loop .cpu in
-    let n = c .before .before .before .before .args .n in
-    let size : length levels ≡ 64 = search needs in
+    let levels = c .before .before .before .before .before .args .levels .now in
+    let cpu = c .before .before .before .before .loop .cpu in
+    let n = c .before .before .before .before .before .args .n in
+    let size : length levels ≡ 64 = c .before .before .before .before .before .pre .0 in
     let bad : levelFits n cpu (getD levels cpu 0) ≡ false = sym (c .before .level-fits .ensures) ∙ not-true (c .before .level-fits .result) (c .if1 .taken) in
     let unfit : levelsFit n levels ≡ false = fails (levelsFit n levels) (λ e. false≢true (sym bad ∙ fit-at n levels e cpu (omega arith))) in
     (sym unfit, (λ e. absurd (false≢true (sym unfit ∙ e))))
@@ -59,10 +58,10 @@ loop-less c = omega arith
 
 loop-again : tie.Need-loop-again Inv-loop μ-loop
 loop-again c =
-    let levels = c .before .before .before .before .before .before .args .t2 in
-    let before = c .before .before .before .before .before .loop in
-    let n = c .before .before .before .before .before .before .args .n in
-    let size : length levels ≡ 64 = search needs in
+    let levels = c .before .before .before .before .before .before .before .args .levels .now in
+    let before = c .before .before .before .before .before .before .loop in
+    let n = c .before .before .before .before .before .before .before .args .n in
+    let size : length levels ≡ 64 = c .before .before .before .before .before .before .before .pre .0 in
     let good : levelFits n (before .cpu) (getD levels (before .cpu) 0) ≡ true =
     sym (c .before .before .before .level-fits .ensures) ∙ not-false (c .before .before .before .level-fits .result) (c .before .before .if1 .left) in (
       omega arith,
@@ -73,9 +72,9 @@ loop-again c =
 
 returns-2 : tie.Need-returns-2 Inv-loop μ-loop
 returns-2 c =
-    let levels = c .before .before .args .t2 in
+    let levels = c .before .before .args .levels .now in
     let n = c .before .before .args .n in
-    let size : length levels ≡ 64 = search needs in
+    let size : length levels ≡ 64 = c .before .before .pre .0 in
     let all : c .before .loop .cpu ≡ 64 = omega arith in (
       sym (fit-all n levels (λ k h. c .before .loop .inv .1 k (omega arith))),
       (λ e. c .before .loop .inv .2 ∙ ap masksOf (take-all (c .before .loop .cpu) levels (omega arith))),
@@ -88,7 +87,7 @@ gather-spec =
     Inv-loop
     μ-loop
     loop-holds
-    array-read-level
+    element-copy-out-level
     level-fits-requires
     returns
     join-requires

@@ -1,9 +1,8 @@
 -- `consistency::parts_agree` meets its contract. The loop's invariant: each level passed has passed its test.
 -- Assumes nothing.
-use borrow.Author.Needs.{needs}
 use mathlib.Core.Path.{_≡_, refl, sym, _∙_, subst}
 use mathlib.Core.Bool.{Bool, true, false, false≢true}
-use mathlib.Core.List.{List}
+use mathlib.Core.List.{List, []}
 use Prim.Native.Nat.{ℕ, _-_, _/_, _^_, _≤_, _<_}
 use native.Mathlib.Nat.{div-eq-of-lt}
 use native.Mathlib.Omega.{arith}
@@ -11,10 +10,8 @@ use lib.Dec.{eqb}
 use borrow.Author.Count.{below-more}
 use borrow.Author.Tests.{not-true, not-false, eqb-true, eqb-false}
 use lib.ListN.{getD}
-use mir.Syntax.{w64}
-use mir.Val.{Fits}
 use Rattle.bits.proofs.Tests.{fails}
-use Rattle.levels.specs.Record.{masksOf}
+use Rattle.levels.specs.Record.{lentRecord, masksOf}
 use Rattle.consistency.specs.Consistent.{agrees, Sized}
 use Rattle.levels.specs.declared.record.Record.{Record}
 use Rattle.consistency.proofs.Agrees.{levelTest, test-passes, top-clear, tests-agree}
@@ -34,20 +31,13 @@ last r sz tests false e =
     sym (fails (agrees r) (λ ok. eqb-false _ 0 e (div-eq-of-lt (top-clear r sz ok))))
 
 abbrev Inv-loop : tie.InvT-loop
-Inv-loop masks r level₀ level = (level ≤ 102) × ((k : ℕ) → k < level → levelTest r masks k ≡ true)
+Inv-loop masks counts words right level₀ level = (level ≤ 102) × ((k : ℕ) → k < level → levelTest (lentRecord masks counts words []) right k ≡ true)
 
 abbrev μ-loop : tie.MeasureT-loop
-μ-loop masks r level₀ level = 102 - level
+μ-loop masks counts words right level₀ level = 102 - level
 
-sized : (c : tie.Start Inv-loop μ-loop) → Sized (c .args .t1)
-sized c = record {
-  masks = search needs;
-  counts = search needs;
-  words = search needs;
-  levels = search needs;
-  mask = λ l. let f : Fits w64 (getD (c .args .t1 .masks) l 0) = search needs in f .fits;
-  word = λ i. let f : Fits w64 (getD (c .args .t1 .words) i 0) = search needs in f .fits;
-}
+abbrev with-levels : tie.Start Inv-loop μ-loop → List ℕ → Record
+with-levels c levels = lentRecord (c .args .masks .now) (c .args .counts .now) (c .args .words .now) levels
 
 loop-holds : tie.Need-loop-holds Inv-loop μ-loop
 loop-holds c = (omega arith, (λ k h. absurd (none h)))
@@ -79,12 +69,13 @@ level-agrees-requires c κs = omega arith
 returns : tie.Need-returns Inv-loop μ-loop
 returns c =
     let a = c .before .before .before .before .before .before .before .before in
-    let r = a .args .t1 in
+    λ levels size right.
+    let r = with-levels a levels in
     let level = c .before .before .before .before .before .before .before .loop .level in
     let h : level < 102 = omega arith in
-    let bad : levelTest r (a .args .masks .now) level ≡ false = sym (c .before .level-agrees .ensures) ∙ not-true (c .before .level-agrees .result) (c .if1 .taken) in
-    let bad′ : levelTest r (masksOf (r .levels)) level ≡ false = subst (λ (ms : List ℕ). levelTest r ms level ≡ false) (a .pre) bad in
-    sym (fails (agrees r) (λ e. false≢true (sym bad′ ∙ test-passes r (sized a) e level h)))
+    let bad : levelTest r (a .args .right .now) level ≡ false = sym (c .before .level-agrees .ensures) ∙ not-true (c .before .level-agrees .result) (c .if1 .taken) in
+    let bad′ : levelTest r (masksOf (r .levels)) level ≡ false = subst (λ (ms : List ℕ). levelTest r ms level ≡ false) right bad in
+    sym (fails (agrees r) (λ e. false≢true (sym bad′ ∙ test-passes r size e level h)))
 
 add-level : tie.Need-add-level Inv-loop μ-loop
 add-level c = omega arith
@@ -103,10 +94,11 @@ element-copy-out-result c = omega arith
 returns-2 : tie.Need-returns-2 Inv-loop μ-loop
 returns-2 c =
     let a = c .before .before .before in
-    let r = a .args .t1 in
+    λ levels size right.
+    let r = with-levels a levels in
     let tests : (k : ℕ) → k < 102 → levelTest r (masksOf (r .levels)) k ≡ true =
-    λ k h. subst (λ (ms : List ℕ). levelTest r ms k ≡ true) (a .pre) (c .before .before .loop .inv .1 k (omega arith)) in
-    last r (sized a) tests (eqb (getD (r .words) 1 0 / 2 ^ 38) 0) refl
+    λ k h. subst (λ (ms : List ℕ). levelTest r ms k ≡ true) right (c .before .before .loop .inv .1 k (omega arith)) in
+    last r size tests (eqb (getD (r .words) 1 0 / 2 ^ 38) 0) refl
 
 pub parts-agree-spec : {M : Type 1} → statement M
 parts-agree-spec =

@@ -4,6 +4,9 @@ use mathlib.Core.Path.{_≡_, refl, sym, ap, _∙_}
 use mathlib.Core.Bool.{Bool, not, cond}
 use Prim.Native.Nat.{ℕ}
 use lib.Dec.{leb}
+use lib.ListN.{getD}
+use mir.Syntax.{w64}
+use mir.Val.{Fits}
 use borrow.Author.Tests.{not-true, not-false, le-leb, lt-leb, leb-true}
 use Rattle.bits.proofs.Tests.{and-right}
 use Rattle.levels.specs.Level.{levelCount}
@@ -30,31 +33,40 @@ returns c =
     sym (found-is (a .n) (a .t2) (a .level) (a .mask) (not-true (sizeFits (a .n)) (c .if1 .taken)) refl refl refl)
 
 is-consistent-requires : tie.Need-is-consistent-requires
-is-consistent-requires c κs = search needs
+is-consistent-requires c κs =
+    let r = c .before .before .before .before .before .before .args .t2 in
+    record {
+      masks = search needs;
+      counts = search needs;
+      words = search needs;
+      levels = search needs;
+      mask = λ l. let f : Fits w64 (getD (r .masks) l 0) = search needs in f .fits;
+      word = λ i. let f : Fits w64 (getD (r .words) i 0) = search needs in f .fits;
+    }
 
 returns-2 : tie.Need-returns-2
 unfolding sizeFits
 returns-2 c =
-    let a = c .before .before .before .args in
-    sym (found-is (a .n) (a .t2) (a .level) (a .mask) (not-false (sizeFits (c .before .before .before .args .n)) (c .before .before .if1 .left)) (sym (c .before .is-consistent .ensures) ∙ not-true (c .before .is-consistent .result) (c .if2 .taken)) refl refl)
+    let a = c .before .before .before .before .before .before .before .before .args in
+    sym (found-is (a .n) (a .t2) (a .level) (a .mask) (not-false (sizeFits (c .before .before .before .before .before .before .before .before .args .n)) (c .before .before .before .before .before .before .before .if1 .left)) (sym (c .before .is-consistent .ensures) ∙ not-true (c .before .is-consistent .result) (c .if2 .taken)) refl refl)
 
 returns-3 : tie.Need-returns-3
 unfolding sizeFits
 returns-3 c =
-    let a = c .before .before .before .before .args in
-    sym (found-is (a .n) (a .t2) (a .level) (a .mask) (not-false (sizeFits (c .before .before .before .before .args .n)) (c .before .before .before .if1 .left)) (sym (c .before .before .is-consistent .ensures) ∙ not-false (c .before .before .is-consistent .result) (c .before .if2 .left)) (le-leb 102 (a .level) (c .if3 .taken)) refl)
+    let a = c .before .before .before .before .before .before .before .before .before .args in
+    sym (found-is (a .n) (a .t2) (a .level) (a .mask) (not-false (sizeFits (c .before .before .before .before .before .before .before .before .before .args .n)) (c .before .before .before .before .before .before .before .before .if1 .left)) (sym (c .before .before .is-consistent .ensures) ∙ not-false (c .before .before .is-consistent .result) (c .before .if2 .left)) (le-leb 102 (a .level) (c .if3 .taken)) refl)
 
 mask-fits-requires : tie.Need-mask-fits-requires
 unfolding sizeFits
 mask-fits-requires c κs =
-    let n = c .before .before .before .before .args .n in
-    leb-true n 64 (and-right (lib.Dec.ltb 0 n) (leb n 64) (not-false (sizeFits (c .before .before .before .before .args .n)) (c .before .before .before .if1 .left)))
+    let n = c .before .before .before .before .before .before .before .before .before .args .n in
+    leb-true n 64 (and-right (lib.Dec.ltb 0 n) (leb n 64) (not-false (sizeFits (c .before .before .before .before .before .before .before .before .before .args .n)) (c .before .before .before .before .before .before .before .before .if1 .left)))
 
 returns-4 : tie.Need-returns-4
 unfolding sizeFits
 returns-4 c =
-    let a = c .before .before .before .before .before .before .args in
-    sym (found-is (a .n) (a .t2) (a .level) (a .mask) (not-false (sizeFits (c .before .before .before .before .before .before .args .n)) (c .before .before .before .before .before .if1 .left)) (sym (c .before .before .before .before .is-consistent .ensures) ∙ not-false (c .before .before .before .before .is-consistent .result) (c .before .before .before .if2 .left)) (lt-leb 102 (c .before .before .before .before .before .before .args .level) (c .before .before .if3 .left)) (sym (c .before .mask-fits .ensures) ∙ not-true (c .before .mask-fits .result) (c .if4 .taken)))
+    let a = c .before .before .before .before .before .before .before .before .before .before .before .args in
+    sym (found-is (a .n) (a .t2) (a .level) (a .mask) (not-false (sizeFits (c .before .before .before .before .before .before .before .before .before .before .before .args .n)) (c .before .before .before .before .before .before .before .before .before .before .if1 .left)) (sym (c .before .before .before .before .is-consistent .ensures) ∙ not-false (c .before .before .before .before .is-consistent .result) (c .before .before .before .if2 .left)) (lt-leb 102 (c .before .before .before .before .before .before .before .before .before .before .before .args .level) (c .before .before .if3 .left)) (sym (c .before .mask-fits .ensures) ∙ not-true (c .before .mask-fits .result) (c .if4 .taken)))
 
 lowest-requires : tie.Need-lowest-requires
 lowest-requires c κs = search needs
@@ -62,8 +74,8 @@ lowest-requires c κs = search needs
 returns-5 : tie.Need-returns-5
 unfolding sizeFits
 returns-5 c =
-    let a = c .before .before .before .before .before .before .before .before .before .args in
-    ap answerOf (c .lowest .ensures) ∙ sym (found-is (a .n) (a .t2) (a .level) (a .mask) (not-false (sizeFits (c .before .before .before .before .before .before .before .before .before .args .n)) (c .before .before .before .before .before .before .before .before .if1 .left)) (sym (c .before .before .before .before .before .before .before .is-consistent .ensures) ∙ not-false (c .before .before .before .before .before .before .before .is-consistent .result) (c .before .before .before .before .before .before .if2 .left)) (lt-leb 102 (c .before .before .before .before .before .before .before .before .before .args .level) (c .before .before .before .before .before .if3 .left)) (sym (c .before .before .before .before .mask-fits .ensures) ∙ not-false (c .before .before .before .before .mask-fits .result) (c .before .before .before .if4 .left)))
+    let a = c .before .before .before .before .before .before .before .before .before .before .before .before .before .before .args in
+    ap answerOf (c .lowest .ensures) ∙ sym (found-is (a .n) (a .t2) (a .level) (a .mask) (not-false (sizeFits (c .before .before .before .before .before .before .before .before .before .before .before .before .before .before .args .n)) (c .before .before .before .before .before .before .before .before .before .before .before .before .before .if1 .left)) (sym (c .before .before .before .before .before .before .before .is-consistent .ensures) ∙ not-false (c .before .before .before .before .before .before .before .is-consistent .result) (c .before .before .before .before .before .before .if2 .left)) (lt-leb 102 (c .before .before .before .before .before .before .before .before .before .before .before .before .before .before .args .level) (c .before .before .before .before .before .if3 .left)) (sym (c .before .before .before .before .mask-fits .ensures) ∙ not-false (c .before .before .before .before .mask-fits .result) (c .before .before .before .if4 .left)))
 
 pub find-spec : {M : Type 1} → statement M
 find-spec =
