@@ -1,7 +1,7 @@
 -- `consistency::gather` meets its contract. The loop's invariant: the levels passed fit, and the masks are theirs.
 -- Assumes nothing.
 use borrow.Author.Needs.{needs}
-use mathlib.Core.Path.{_≡_, refl, sym, ap, _∙_}
+use mathlib.Core.Path.{_≡_, sym, ap, _∙_}
 use mathlib.Core.Bool.{true, false, false≢true}
 use mathlib.Core.List.{List}
 use Prim.Native.Nat.{ℕ, _-_, _≤_, _<_}
@@ -11,9 +11,8 @@ use lib.ListN.{length, getD, take}
 use lib.Seq.{take-all}
 use borrow.Author.Count.{below-more}
 use borrow.Author.Tests.{not-true, not-false}
-use Rattle.bits.specs.Bit.{packed}
 use Rattle.bits.proofs.Tests.{fails}
-use Rattle.levels.specs.Record.{table, maskAt, masksOf}
+use Rattle.levels.specs.Record.{masksOf}
 use Rattle.consistency.specs.Consistent.{levelFits, levelsFit, joined}
 use Rattle.consistency.proofs.Agrees.{fit-at, fit-all, masks-next}
 use Rattle.consistency.proofs.gather.Statement.{statement}
