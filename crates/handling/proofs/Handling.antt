@@ -14,7 +14,7 @@ use Rattle.rules.specs.Refusals.{refusal}
 use Rattle.rules.specs.Migration.{Move, Settled, settled, migrate}
 use Rattle.rules.specs.Outcome.{Outcome, logged}
 use Rattle.rules.specs.Tables.{Tables, machineOf, tablesOf, flatOf, rowsOf, rowCounts, logPlaces}
-use Rattle.rules.specs.Entry.{Good, Result, kept, written, checked, eventAnswer, orElse, handled}
+use Rattle.rules.specs.Entry.{result, Good, Result, kept, written, checked, eventAnswer, orElse, handled}
 use Rattle.rules.specs.LentDemand3.{LentDemand3}
 use Rattle.rules.proofs.Checks.{outcome-accepted}
 use Rattle.rules.proofs.Effects.{keep-effect}
@@ -27,7 +27,6 @@ use Rattle.dispatch.specs.Lent.{LentAll, Answered}
 use Rattle.effects.specs.After.{applied, ifAccepted}
 use Rattle.placement.proofs.Order.{well-formed-order}
 use Rattle.migration.specs.Settling.{Settling, Ended}
-use Rattle.handling.specs.Result.{result}
 
 -- tables that agree in every part
 record Same (s t : Tables) : Type 0 where

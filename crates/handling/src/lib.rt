@@ -1,10 +1,9 @@
 // An event on tables that pass the check: the event's own effect, then migration steps until none applies.
 ghost use mathlib.Core.Path.{_≡_};
 ghost use Rattle.cpupri.specs.Record.{lentRecord};
-ghost use Rattle.rules.specs.Entry.{checked, handled};
+ghost use Rattle.rules.specs.Entry.{result, checked, handled};
 ghost use Rattle.rules.specs.Events.{event as numbers};
 ghost use Rattle.checker.specs.Lent.{lent};
-ghost use Rattle.handling.specs.Result.{result};
 use cpupri::record::CPUS;
 use cpupri::record::LEVELS;
 use cpupri::record::WORDS;

@@ -1,3 +1,4 @@
 -- What the proofs of several functions use.
 mod Copying
 pub mod Records
+pub mod Entries

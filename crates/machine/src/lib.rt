@@ -1,13 +1,12 @@
 // The machine's event over tables lent by the caller: the checks, the event's own effect, then
 // migration steps until none applies. What comes after the checks is crate `handling`.
 ghost use mathlib.Core.Path.{_≡_};
-ghost use Rattle.rules.specs.Entry.{checked, handled};
+ghost use Rattle.rules.specs.Entry.{result, checked, handled};
 ghost use Rattle.rules.specs.Events.{effect};
 ghost use Rattle.rules.specs.LentDemand3.{LentDemand3};
 ghost use Rattle.rules.specs.Tables.{machineOf};
 ghost use Rattle.checker.specs.Lent.{lent};
 ghost use Rattle.rules.specs.Events.{event as numbers};
-ghost use Rattle.machine.specs.Result.{result};
 use cpupri::record::Record;
 pub use handling::handle;
 

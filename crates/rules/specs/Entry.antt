@@ -22,13 +22,16 @@ pub record Result : Type 0 where
   pub cpupri : Record
   pub tables : Tables
 
+abbrev pub result : ℕ → ℕ → Record → Tables → Result
+result a k r s = record { answer = a; moves = k; cpupri = r; tables = s }
+
 -- refused, or nothing to change: all as it was lent
 abbrev pub kept : ℕ → Record → Tables → Result
-kept a r s = record { answer = a; moves = 0; cpupri = r; tables = s }
+kept a r s = result a 0 r s
 
 -- a machine written back, with its record
 abbrev pub written : ℕ → Machine → List ℕ → Result
-written k m log = record { answer = 0; moves = k; cpupri = recordOf (levels m); tables = tablesOf m log }
+written k m log = result 0 k (recordOf (levels m)) (tablesOf m log)
 
 -- ---- the checks before an event's own: 1, then 2
 

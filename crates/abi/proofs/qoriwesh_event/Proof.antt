@@ -4,8 +4,8 @@ use mathlib.Core.Path.{sym, _∙_}
 use borrow.Author.Tests.{not-true, not-false}
 use Rattle.checker.specs.Lent.{lent}
 use Rattle.rules.specs.Events.{event}
-use Rattle.abi.specs.Lent.{lentRecord}
-use Rattle.abi.proofs.Entries.{handled-unfit, handled-fit, checked-again, refused}
+use Rattle.lentrecord.specs.Lent.{lentRecord}
+use Rattle.lentrecord.proofs.Entries.{handled-unfit, handled-fit, checked-again, refused}
 use Rattle.lentrecord.proofs.Records.{fits-again}
 use Rattle.abi.proofs.qoriwesh_event.Statement.{statement}
 use Rattle.abi.proofs.qoriwesh_event.Tie as tie

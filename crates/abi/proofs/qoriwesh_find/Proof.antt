@@ -2,9 +2,10 @@
 use borrow.Author.Needs.{needs}
 use mathlib.Core.Path.{sym, ap, _∙_}
 use borrow.Author.Tests.{not-true, not-false}
-use Rattle.abi.specs.Lent.{lentRecord, answer}
+use Rattle.lentrecord.specs.Lent.{lentRecord}
+use Rattle.lentrecord.specs.Entry.{answer}
 use Rattle.cpupri.specs.Found.{answerOf}
-use Rattle.abi.proofs.Entries.{found-unfit, found-fit}
+use Rattle.lentrecord.proofs.Entries.{found-unfit, found-fit}
 use Rattle.abi.proofs.qoriwesh_find.Statement.{statement}
 use Rattle.abi.proofs.qoriwesh_find.Tie as tie
 

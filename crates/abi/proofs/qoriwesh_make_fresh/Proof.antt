@@ -3,8 +3,8 @@ use borrow.Author.Needs.{needs}
 use mathlib.Core.Path.{sym, _∙_}
 use borrow.Author.Tests.{not-true, not-false}
 use Rattle.checker.specs.Lent.{lent}
-use Rattle.abi.specs.Lent.{lentRecord}
-use Rattle.abi.proofs.Entries.{made-unfit, made-fit}
+use Rattle.lentrecord.specs.Lent.{lentRecord}
+use Rattle.lentrecord.proofs.Entries.{made-unfit, made-fit}
 use Rattle.abi.proofs.qoriwesh_make_fresh.Statement.{statement}
 use Rattle.abi.proofs.qoriwesh_make_fresh.Tie as tie
 

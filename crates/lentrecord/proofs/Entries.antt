@@ -1,16 +1,18 @@
 -- The entries over a record lent as four tables: those of the rules where the four have their lengths, else refused with 1.
 -- Assumes nothing.
-use mathlib.Core.Path.{_≡_, refl, sym, ap, _∙_}
+use mathlib.Core.Path.{_≡_, sym, ap, _∙_}
 use mathlib.Core.Bool.{Bool, true, false, cond}
 use Prim.Native.Nat.{ℕ}
 use native.Mathlib.Omega.{arith}
 use Rattle.cpupri.specs.Found as finder
 use Rattle.levels.specs.declared.record.Record.{Record}
 use Rattle.rules.specs.Entry as entry
+use Rattle.rules.specs.Entry.{result}
 use Rattle.rules.specs.Events.{Event}
 use Rattle.rules.specs.Refusals.{badSize}
 use Rattle.rules.specs.Tables.{Tables}
-use Rattle.abi.specs.Lent.{fits, result, made, checked, handled, found}
+use Rattle.lentrecord.specs.Lent.{fits}
+use Rattle.lentrecord.specs.Entry.{made, checked, handled, found}
 
 module _ {A : Type 0} {b : Bool} (x y : A) where
   at-true : b ≡ true → cond b x y ≡ x
@@ -65,12 +67,3 @@ checked-again n u t z h written zero = sym (checked-fit n 0 u t z h (sym written
 
 pub refused : badSize ≡ 0 → ⊥
 refused h = omega arith
-
--- tables that pass the check have their lengths, and pass the check of the rules
-pub passed : (n : ℕ) (r : Record) (s : Tables) → checked n r s ≡ 0 → (fits r ≡ true) × (entry.checked n r s ≡ 0)
-unfolding checked
-passed n r s = go (fits r)
-  where
-    go : (b : Bool) → cond b (entry.checked n r s) badSize ≡ 0 → (b ≡ true) × (entry.checked n r s ≡ 0)
-    go true h = (refl, h)
-    go false h = absurd (refused h)

@@ -8,18 +8,11 @@ use Rattle.rules.specs.Entry as entry
 use Rattle.rules.specs.Events.{Event}
 use Rattle.rules.specs.Refusals.{badSize}
 use Rattle.rules.specs.Tables.{Tables}
-pub use Rattle.lentrecord.specs.Lent.{lentRecord, fits}
-unfoldable pub use Rattle.lentrecord.specs.Lent.{recordFits}
+use Rattle.lentrecord.specs.Lent.{fits}
 
--- ---- what an entry hands back, put together
-
-abbrev pub result : ℕ → ℕ → Record → Tables → entry.Result
-result a k r s = record { answer = a; moves = k; cpupri = r; tables = s }
-
+-- what the finder answers, put together
 abbrev pub answer : ℕ → ℕ → ℕ → finder.Answer
 answer number level mask = record { number = number; level = level; mask = mask }
-
--- ---- the entries
 
 unfoldable pub made : ℕ → Record → Tables → entry.Result
 made n r s = cond (fits r) (entry.made n r s) (entry.kept badSize r s)
