@@ -1,5 +1,4 @@
 // Cases beyond the marked examples: the longest chain, the order of movers, the other refusals, tables that are damaged.
-use super::print;
 use super::tables::Tables;
 
 // 64 CPUs, task c on CPU c allowed there and on the next, priorities falling: a higher task that may use

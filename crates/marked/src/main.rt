@@ -1,7 +1,6 @@
 // Document 01's marked examples K1 to K12, run through the library: each event with its answer and its
 // moves, and after each accepted one but an add the rows, levels and tasks. Then a few more cases.
 mod cases;
-mod print;
 mod tables;
 
 use tables::Tables;

@@ -1,5 +1,4 @@
 // A machine's tables with its record, and events on them that print what they answer.
-use super::print;
 use checker::fresh::Made;
 use cpupri::record::Record;
 use machine::Outcome;

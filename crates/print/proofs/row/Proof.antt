@@ -1,15 +1,15 @@
--- `marked::print::levels` meets its contract: the loop counts up to N. Assumes what io's functions assume.
+-- `print::row` meets its contract: the loop counts up to 512. Assumes what io's functions assume.
 use borrow.Author.Needs.{needs}
 use Prim.Native.Nat.{_-_, _≤_}
 use native.Mathlib.Omega.{arith}
-use Rattle.marked.proofs.print.levels.Statement.{statement}
-use Rattle.marked.proofs.print.levels.Tie as tie
+use Rattle.print.proofs.row.Statement.{statement}
+use Rattle.print.proofs.row.Tie as tie
 
 abbrev Inv-loop : tie.InvT-loop
-Inv-loop n levels c₀ t5 t6 c = c ≤ n
+Inv-loop rows c count i₀ t6 i = i ≤ 512
 
 abbrev μ-loop : tie.MeasureT-loop
-μ-loop n levels c₀ t5 t6 c = n - c
+μ-loop rows c count i₀ t6 i = 512 - i
 
 slice-aggregate-text : tie.Need-slice-aggregate-text Inv-loop μ-loop
 slice-aggregate-text c = search needs
@@ -20,20 +20,20 @@ text-requires c κs = search needs
 loop-holds : tie.Need-loop-holds Inv-loop μ-loop
 loop-holds c = omega arith
 
-slice-aggregate-number : tie.Need-slice-aggregate-number Inv-loop μ-loop
-slice-aggregate-number c = search needs
+mul-at : tie.Need-mul-at Inv-loop μ-loop
+mul-at c = omega arith
 
-cast-level : tie.Need-cast-level Inv-loop μ-loop
-cast-level c = omega arith
+add-at : tie.Need-add-at Inv-loop μ-loop
+add-at c = omega arith
 
-level-requires : tie.Need-level-requires Inv-loop μ-loop
-level-requires c κs = search needs
+at-requires : tie.Need-at-requires Inv-loop μ-loop
+at-requires c κs = search needs
 
-number-requires : tie.Need-number-requires Inv-loop μ-loop
-number-requires c κs = search needs
+listed-requires : tie.Need-listed-requires Inv-loop μ-loop
+listed-requires c κs = search needs
 
-add-c : tie.Need-add-c Inv-loop μ-loop
-add-c c = omega arith
+add-i : tie.Need-add-i Inv-loop μ-loop
+add-i c = omega arith
 
 loop-less : tie.Need-loop-less Inv-loop μ-loop
 loop-less c = omega arith
@@ -50,8 +50,8 @@ text-requires-2 c κs = search needs
 returns : tie.Need-returns Inv-loop μ-loop
 returns c = search needs
 
-pub levels-spec : {M : Type 1} → statement M
-levels-spec =
+pub row-spec : {M : Type 1} → statement M
+row-spec =
     tie.close
     (tie.spec
     Inv-loop
@@ -59,11 +59,11 @@ levels-spec =
     slice-aggregate-text
     text-requires
     loop-holds
-    slice-aggregate-number
-    cast-level
-    level-requires
-    number-requires
-    add-c
+    mul-at
+    add-at
+    at-requires
+    listed-requires
+    add-i
     loop-less
     loop-again
     slice-aggregate-text-2

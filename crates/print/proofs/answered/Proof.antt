@@ -1,9 +1,9 @@
--- `marked::print::answered` meets its contract: the loop counts up to 63. Assumes what io's functions assume.
+-- `print::answered` meets its contract: the loop counts up to 63. Assumes what io's functions assume.
 use borrow.Author.Needs.{needs}
 use Prim.Native.Nat.{_-_, _≤_}
 use native.Mathlib.Omega.{arith}
-use Rattle.marked.proofs.print.answered.Statement.{statement}
-use Rattle.marked.proofs.print.answered.Tie as tie
+use Rattle.print.proofs.answered.Statement.{statement}
+use Rattle.print.proofs.answered.Tie as tie
 
 abbrev Inv-loop : tie.InvT-loop
 Inv-loop answer moves log i₀ t7 i = i ≤ 63

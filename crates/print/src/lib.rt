@@ -1,4 +1,4 @@
-// What the program writes.
+// What the program `marked` writes: an event with its answer, and the tables.
 use libc::STDOUT_FILENO;
 
 pub fn text(words: &[u8]) {

@@ -1,15 +1,15 @@
--- `marked::print::counts` meets its contract: the loop counts up to N. Assumes what io's functions assume.
+-- `print::levels` meets its contract: the loop counts up to N. Assumes what io's functions assume.
 use borrow.Author.Needs.{needs}
 use Prim.Native.Nat.{_-_, _≤_}
 use native.Mathlib.Omega.{arith}
-use Rattle.marked.proofs.print.counts.Statement.{statement}
-use Rattle.marked.proofs.print.counts.Tie as tie
+use Rattle.print.proofs.levels.Statement.{statement}
+use Rattle.print.proofs.levels.Tie as tie
 
 abbrev Inv-loop : tie.InvT-loop
-Inv-loop n counts c₀ t5 c = c ≤ n
+Inv-loop n levels c₀ t5 t6 c = c ≤ n
 
 abbrev μ-loop : tie.MeasureT-loop
-μ-loop n counts c₀ t5 c = n - c
+μ-loop n levels c₀ t5 t6 c = n - c
 
 slice-aggregate-text : tie.Need-slice-aggregate-text Inv-loop μ-loop
 slice-aggregate-text c = search needs
@@ -23,11 +23,11 @@ loop-holds c = omega arith
 slice-aggregate-number : tie.Need-slice-aggregate-number Inv-loop μ-loop
 slice-aggregate-number c = search needs
 
-cast-at : tie.Need-cast-at Inv-loop μ-loop
-cast-at c = omega arith
+cast-level : tie.Need-cast-level Inv-loop μ-loop
+cast-level c = omega arith
 
-at-requires : tie.Need-at-requires Inv-loop μ-loop
-at-requires c κs = search needs
+level-requires : tie.Need-level-requires Inv-loop μ-loop
+level-requires c κs = search needs
 
 number-requires : tie.Need-number-requires Inv-loop μ-loop
 number-requires c κs = search needs
@@ -41,11 +41,17 @@ loop-less c = omega arith
 loop-again : tie.Need-loop-again Inv-loop μ-loop
 loop-again c = omega arith
 
+slice-aggregate-text-2 : tie.Need-slice-aggregate-text-2 Inv-loop μ-loop
+slice-aggregate-text-2 c = search needs
+
+text-requires-2 : tie.Need-text-requires-2 Inv-loop μ-loop
+text-requires-2 c κs = search needs
+
 returns : tie.Need-returns Inv-loop μ-loop
 returns c = search needs
 
-pub counts-spec : {M : Type 1} → statement M
-counts-spec =
+pub levels-spec : {M : Type 1} → statement M
+levels-spec =
     tie.close
     (tie.spec
     Inv-loop
@@ -54,10 +60,12 @@ counts-spec =
     text-requires
     loop-holds
     slice-aggregate-number
-    cast-at
-    at-requires
+    cast-level
+    level-requires
     number-requires
     add-c
     loop-less
     loop-again
+    slice-aggregate-text-2
+    text-requires-2
     returns)

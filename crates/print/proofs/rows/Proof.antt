@@ -1,9 +1,9 @@
--- `marked::print::rows` meets its contract: the loop counts up to N. Assumes what io's functions assume.
+-- `print::rows` meets its contract: the loop counts up to N. Assumes what io's functions assume.
 use borrow.Author.Needs.{needs}
 use Prim.Native.Nat.{_-_, _≤_}
 use native.Mathlib.Omega.{arith}
-use Rattle.marked.proofs.print.rows.Statement.{statement}
-use Rattle.marked.proofs.print.rows.Tie as tie
+use Rattle.print.proofs.rows.Statement.{statement}
+use Rattle.print.proofs.rows.Tie as tie
 
 abbrev Inv-loop : tie.InvT-loop
 Inv-loop n rows counts c₀ c = c ≤ n

@@ -1,9 +1,9 @@
--- `marked::print::tasks` meets its contract: the loop counts up to 512. Assumes what io's functions assume.
+-- `print::tasks` meets its contract: the loop counts up to 512. Assumes what io's functions assume.
 use borrow.Author.Needs.{needs}
 use Prim.Native.Nat.{_-_, _≤_}
 use native.Mathlib.Omega.{arith}
-use Rattle.marked.proofs.print.tasks.Statement.{statement}
-use Rattle.marked.proofs.print.tasks.Tie as tie
+use Rattle.print.proofs.tasks.Statement.{statement}
+use Rattle.print.proofs.tasks.Tie as tie
 
 abbrev Inv-loop : tie.InvT-loop
 Inv-loop state cpu slice t₀ t5 t6 t7 t8 t = t ≤ 512
