@@ -8,7 +8,7 @@ use Prim.Native.Nat.{ℕ, suc, _/_, _%_, _^_, _≤_, _<_}
 use lib.Dec.{eqb, ltb}
 use lib.ListN.{length, getD, set}
 use Rattle.bits.specs.Bit.{bit, withBit}
-use Rattle.levels.specs.Level.{levelCount, cpuPlaces, unused, invalid}
+use Rattle.levels.specs.Level.{levelCount, wordCount, cpuPlaces, unused, invalid}
 use Rattle.levels.specs.Record.{countAt, active, masksOf, countsOf, wordsOf}
 use Rattle.levels.specs.declared.record.Record.{Record}
 
@@ -46,7 +46,7 @@ consistent n r = levelsFit n (r .levels) && agrees r
 pub record Sized (r : Record) : Type 0 where
   pub masks : length (r .masks) ≡ levelCount
   pub counts : length (r .counts) ≡ levelCount
-  pub words : length (r .words) ≡ 2
+  pub words : length (r .words) ≡ wordCount
   pub levels : length (r .levels) ≡ cpuPlaces
   pub mask : (l : ℕ) → getD (r .masks) l 0 < 2 ^ 64
   pub word : (i : ℕ) → getD (r .words) i 0 < 2 ^ 64

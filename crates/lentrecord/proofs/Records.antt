@@ -7,8 +7,8 @@ use Prim.Native.Nat.{ℕ}
 use lib.Dec.{eqb}
 use borrow.Author.Tests.{eqb-true}
 use Rattle.bits.proofs.Tests.{and-left, and-right}
-use Rattle.cpupri.specs.Level.{levelCount, cpuPlaces}
-use Rattle.lentrecord.specs.Lent.{wordCount, lentRecord, recordFits}
+use Rattle.cpupri.specs.Level.{levelCount, wordCount, cpuPlaces}
+use Rattle.lentrecord.specs.Lent.{lentRecord, recordFits}
 
 pub record Sized (m c w l : ℕ) : Type 0 where
   pub masks : m ≡ levelCount

@@ -14,6 +14,8 @@ use Rattle.lentrecord.specs.Lent.{fits}
 abbrev pub answer : ℕ → ℕ → ℕ → finder.Answer
 answer number level mask = record { number = number; level = level; mask = mask }
 
+-- ---- the entries
+
 unfoldable pub made : ℕ → Record → Tables → entry.Result
 made n r s = cond (fits r) (entry.made n r s) (entry.kept badSize r s)
 

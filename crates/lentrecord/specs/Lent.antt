@@ -4,13 +4,9 @@ use mathlib.Core.Bool.{Bool, _&&_}
 use Prim.Native.Nat.{ℕ}
 use lib.Dec.{eqb}
 use lib.ListN.{length}
-use Rattle.cpupri.specs.Level.{levelCount, cpuPlaces}
+use Rattle.cpupri.specs.Level.{levelCount, wordCount, cpuPlaces}
 use Rattle.levels.specs.declared.record.Record.{Record}
 pub use Rattle.cpupri.specs.Record.{lentRecord}
-
--- two words of level bits
-abbrev pub wordCount : ℕ
-wordCount = 2
 
 -- tables of these lengths can hold a record
 unfoldable pub recordFits : ℕ → ℕ → ℕ → ℕ → Bool

@@ -5,9 +5,12 @@ use Prim.Native.Nat.{ℕ, _+_}
 use mathlib.Core.Bool.{Bool, _||_}
 use lib.Dec.{ltb, eqb}
 
--- how many levels a record has masks for, and places for CPUs
+-- how many levels a record has masks for, words of level bits, and places for CPUs
 abbrev pub levelCount : ℕ
 levelCount = 102
+
+abbrev pub wordCount : ℕ
+wordCount = 2
 
 abbrev pub cpuPlaces : ℕ
 cpuPlaces = 64
