@@ -1,13 +1,14 @@
 -- An event on tables that pass the check: what it is lent for its own effect, and what it hands back, refused or taken.
 -- Assumes nothing.
 use mathlib.Core.Path.{_≡_, refl, sym, ap, _∙_, subst}
+use mathlib.Core.Bool.{true}
 use mathlib.Core.List.{List}
 use Prim.Native.Nat.{ℕ, zero, suc, _*_, _≤_, _<_}
 use native.Mathlib.Omega.{arith}
 use lib.ListN.{length}
 use Rattle.cpupri.specs.Record.{recordOf}
 use Rattle.levels.specs.declared.record.Record.{Record}
-use Rattle.rules.specs.Machine.{Machine, levels, taskPlaces, cpuPlaces}
+use Rattle.rules.specs.Machine.{Machine, row, levels, taskPlaces, cpuPlaces}
 use Rattle.rules.specs.WellFormed.{WellFormed}
 use Rattle.rules.specs.Events.{Event, effect}
 use Rattle.rules.specs.Refusals.{refusal}
@@ -23,8 +24,11 @@ use Rattle.rules.proofs.Tables.{write-read, stored-test}
 use Rattle.rules.proofs.Entry.{checked-good, good-checked, handled-answer, handled-refused, handled-accepted, handled-good, start-n}
 use Rattle.rules.proofs.LentDemand3.{handled-lent}
 use Rattle.checker.specs.Lent.{lent}
-use Rattle.dispatch.specs.Lent.{LentAll, Answered}
-use Rattle.effects.specs.After.{applied, ifAccepted}
+use Rattle.deciding.specs.Decided.{did, firstOf, Lent, LentRows, Decides}
+use Rattle.deciding.specs.declared.plan.Decision.{Decision}
+use Rattle.deciding.specs.declared.plan.Decision.the-variants.{Refused}
+use Rattle.carrying.specs.Holds.{Holds, Carriable}
+use Rattle.handling.proofs.Decisions.{accepted, ready, refused, taken}
 use Rattle.placement.proofs.Order.{well-formed-order}
 use Rattle.migration.specs.Settling.{Settling, Ended}
 
@@ -73,98 +77,92 @@ module _ (n : ℕ) (r : Record) (s : Tables) (h : checked n r s ≡ 0) where
       long : length (s .rows) ≡ taskPlaces * length (s .counts)
       long = good .rows ∙ ap (λ (k : ℕ). taskPlaces * k) (sym (good .counts))
 
-  pub lent-all : LentAll (machineOf n s) n (s .state) (s .policy) (s .prio) (s .cpu) (s .slice) (s .mask) (s .rows) (s .counts) (s .flags) r
-  lent-all =
+  pub holds : Holds (machineOf n s) (s .state) (s .policy) (s .prio) (s .cpu) (s .slice) (s .mask) (s .rows) (s .counts) (s .flags) r
+  holds =
       record {
-        formed = good .machine;
-        cpus = refl;
-        columns = record { state = refl; policy = refl; prio = refl; cpu = refl; slice = refl; mask = refl };
-        placed = record { rows = sym (back .0); counts = sym (back .1); levels = good .levels };
-        flags = refl;
-      }
-
-  written-same : tablesOf before (s .log) ≡ s
-  written-same =
-      same-tables _ s
-      (record {
         state = refl;
         policy = refl;
         prio = refl;
         cpu = refl;
         slice = refl;
         mask = refl;
-        rows = back .0;
-        counts = back .1;
+        rows = sym (back .0);
+        counts = sym (back .1);
         flags = refl;
-        log = refl;
-      })
+        levels = good .levels;
+      }
 
-  -- ---- after the event's own effect
+  pub lent-rows : LentRows (machineOf n s) n (s .rows) (s .counts)
+  lent-rows = record { formed = good .machine; cpus = refl; rows = holds .rows; counts = holds .counts }
 
-  module _ (e : Event) (a : ℕ) (t : Tables) (q : Record) (log : t .log ≡ s .log)
-      (done : Answered (machineOf n s) e a (t .state) (t .policy) (t .prio) (t .cpu) (t .slice) (t .mask) (t .rows) (t .counts) (t .flags) q) where
-    answer-is : eventAnswer n r s e ≡ a
+  pub lent-columns : (who first : ℕ) → first ≡ firstOf (row (machineOf n s) who)
+      → Lent (machineOf n s) n (s .state) (s .policy) (s .prio) (s .cpu) (s .slice) (s .mask) who first
+  lent-columns who first e =
+      record {
+        formed = good .machine;
+        cpus = refl;
+        state = refl;
+        policy = refl;
+        prio = refl;
+        cpu = refl;
+        slice = refl;
+        mask = refl;
+        runs = e;
+      }
+
+  -- ---- the decision
+
+  module _ (e : Event) (d : Decision) (right : Decides (machineOf n s) e d) where
+    pub carriable : Carriable (machineOf n s) (s .state) (s .policy) (s .prio) (s .cpu) (s .slice) (s .mask) (s .rows) (s .counts) (s .flags) r d
+    carriable = record { formed = good .machine; holds = holds; ready = ready before e d right }
+
+    -- refused: nothing was written
+    pub refused-result : (a : ℕ) → d ≡ Refused a → (result a 0 r s ≡ handled n r s e) × (checked n r s ≡ 0)
     unfolding eventAnswer
-    answer-is = ap (λ (x : ℕ). orElse x (refusal before e)) h ∙ sym (done .answer)
-
-    applied-is : (b : ℕ) → a ≡ b → applied e before ≡ ifAccepted b (effect e before) before
-    unfolding applied
-    applied-is b z = ap (λ (x : ℕ). ifAccepted x (effect e before) before) (sym (done .answer) ∙ z)
-
-    effect-written : t ≡ tablesOf (applied e before) (s .log)
-    effect-written =
-        same-tables t _
-        (record {
-          state = done .columns .state;
-          policy = done .columns .policy;
-          prio = done .columns .prio;
-          cpu = done .columns .cpu;
-          slice = done .columns .slice;
-          mask = done .columns .mask;
-          rows = done .placed .rows;
-          counts = done .placed .counts;
-          flags = done .flags;
-          log = log;
-        })
-
-    -- ---- refused
-
-    refused-same : (b : ℕ) → a ≡ suc b → (q ≡ r) × (t ≡ s)
-    refused-same b z = (
-      done .placed .levels ∙ ap (λ (m : Machine). recordOf (levels m)) (applied-is (suc b) z) ∙ sym (good .levels),
-      effect-written ∙ ap (λ (m : Machine). tablesOf m (s .log)) (applied-is (suc b) z) ∙ written-same,
-    )
-
-    pub refused-result : (a ≡ 0 → ⊥) → (result a 0 q t ≡ handled n r s e) × (checked n q t ≡ 0)
-    refused-result z = go a refl
+    refused-result a is = (go a refl (refused before e a (subst (Decides before e) is right)), h)
       where
-        go : (b : ℕ) → a ≡ b → (result a 0 q t ≡ handled n r s e) × (checked n q t ≡ 0)
-        go zero x = absurd (z x)
-        go (suc b) x =
-            let same = refused-same b x in
-            let q-same : q ≡ r = same .0 in
-            let t-same : t ≡ s = same .1 in
-            let all : result a 0 q t ≡ kept (suc b) r s = cc in
-            let chk : checked n q t ≡ checked n r s = cc in
-            (all ∙ sym (handled-refused n r s e b (answer-is ∙ x)), chk ∙ h)
+        go : (b : ℕ) → a ≡ b → (a ≡ refusal before e) × (a ≡ 0 → ⊥) → result a 0 r s ≡ handled n r s e
+        go zero x f = absurd (f .1 x)
+        go (suc b) x f =
+            ap (λ (k : ℕ). kept k r s) x
+            ∙ sym (handled-refused n r s e b (ap (λ (k : ℕ). orElse k (refusal before e)) h ∙ sym (f .0) ∙ x))
 
-    -- ---- taken
+    -- ---- taken: the tables t after it was carried out
 
-    module _ (z : a ≡ 0) where
+    module _ (z : accepted d ≡ true) (t : Tables) (q : Record) (log : t .log ≡ s .log)
+        (done : Holds (did d (machineOf n s)) (t .state) (t .policy) (t .prio) (t .cpu) (t .slice) (t .mask) (t .rows) (t .counts) (t .flags) q) where
       abbrev start : Machine
       start = effect e before
 
       takes : refusal before e ≡ 0
-      takes = sym (done .answer) ∙ z
+      takes = taken before e d right z .0
+
+      start-is : did d before ≡ start
+      start-is = taken before e d right z .1
 
       answer-zero-is : eventAnswer n r s e ≡ 0
-      answer-zero-is = answer-is ∙ z
+      unfolding eventAnswer
+      answer-zero-is = ap (λ (x : ℕ). orElse x (refusal before e)) h ∙ takes
 
       well : WellFormed start
       well = keep-effect before e (good .machine) takes
 
       start-tables : t ≡ tablesOf start (s .log)
-      start-tables = effect-written ∙ ap (λ (m : Machine). tablesOf m (s .log)) (applied-is 0 z)
+      start-tables =
+          same-tables t _
+          (record {
+            state = done .state;
+            policy = done .policy;
+            prio = done .prio;
+            cpu = done .cpu;
+            slice = done .slice;
+            mask = done .mask;
+            rows = done .rows;
+            counts = done .counts;
+            flags = done .flags;
+            log = log;
+          })
+          ∙ ap (λ (m : Machine). tablesOf m (s .log)) start-is
 
       pub start-settling : Settling (effect e (machineOf n s)) (t .prio) (t .cpu) (t .mask) (t .counts) (t .rows) q
       start-settling =
@@ -175,7 +173,7 @@ module _ (n : ℕ) (r : Record) (s : Tables) (h : checked n r s ≡ 0) where
               prio = ap (λ (x : Tables). x .prio) start-tables;
               counts = ap (λ (x : Tables). x .counts) start-tables;
               rows = ap (λ (x : Tables). x .rows) start-tables;
-              levels = done .placed .levels ∙ ap (λ (m : Machine). recordOf (levels m)) (applied-is 0 z);
+              levels = done .levels ∙ ap (λ (m : Machine). recordOf (levels m)) start-is;
             };
             cpus = ap (λ (x : Tables). x .cpu) start-tables;
             masks = ap (λ (x : Tables). x .mask) start-tables;

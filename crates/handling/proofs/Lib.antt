@@ -1,2 +1,3 @@
 -- The laws of an event on lent tables.
+pub mod Decisions
 pub mod Handling

@@ -4,9 +4,13 @@ ghost use Rattle.cpupri.specs.Record.{lentRecord};
 ghost use Rattle.rules.specs.Entry.{result, checked, handled};
 ghost use Rattle.rules.specs.Events.{event as numbers};
 ghost use Rattle.checker.specs.Lent.{lent};
+use carrying::carry_out;
 use cpupri::record::CPUS;
 use cpupri::record::LEVELS;
 use cpupri::record::WORDS;
+use deciding::decide;
+use deciding::plan::Decision;
+use deciding::read::running;
 use migration::settle::settle;
 
 // The answer to an event: 0 and the number of moves, or a refusal with 0 moves, which changes nothing.
@@ -42,8 +46,29 @@ pub fn handle(
     ensures { λ o. ⌜ result (o .answer) (o .moves) (lentRecord (now (masks .exit)) (now (tallies .exit)) (now (words .exit)) (now (levels .exit))) (lent (now (state .exit)) (now (policy .exit)) (now (prio .exit)) (now (cpu .exit)) (now (slice .exit)) (now (mask .exit)) (now (rows .exit)) (now (counts .exit)) (now (flags .exit)) (now (log .exit))) ≡ handled n (lentRecord (now (masks .entry)) (now (tallies .entry)) (now (words .entry)) (now (levels .entry))) (lent (now (state .entry)) (now (policy .entry)) (now (prio .entry)) (now (cpu .entry)) (now (slice .entry)) (now (mask .entry)) (now (rows .entry)) (now (counts .entry)) (now (flags .entry)) (now (log .entry))) (numbers kind who a b k) ⌝ }
     ensures { λ o. ⌜ checked n (lentRecord (now (masks .exit)) (now (tallies .exit)) (now (words .exit)) (now (levels .exit))) (lent (now (state .exit)) (now (policy .exit)) (now (prio .exit)) (now (cpu .exit)) (now (slice .exit)) (now (mask .exit)) (now (rows .exit)) (now (counts .exit)) (now (flags .exit)) (now (log .exit))) ≡ 0 ⌝ }
 {
-    let refusal = dispatch::apply(
+    let first = running(n, rows, counts, who);
+    let decision = decide(
         n,
+        state,
+        policy,
+        prio,
+        cpu,
+        slice,
+        mask,
+        first,
+        kind,
+        who,
+        a,
+        b,
+        k,
+    );
+    if let Decision::Refused(number) = decision {
+        return Handled {
+            answer: number,
+            moves: 0,
+        };
+    }
+    carry_out(
         state,
         policy,
         prio,
@@ -57,18 +82,8 @@ pub fn handle(
         tallies,
         words,
         levels,
-        kind,
-        who,
-        a,
-        b,
-        k,
+        decision,
     );
-    if refusal != 0 {
-        return Handled {
-            answer: refusal,
-            moves: 0,
-        };
-    }
     let steps = settle(
         n,
         prio,

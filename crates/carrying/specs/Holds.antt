@@ -1,0 +1,76 @@
+-- What the lent tables hold of a machine, and what is needed to carry a decision out. Lists are named after the columns: ss states, ps policies,
+-- qs priorities, cs CPUs, ls slices, ks masks, flat rows, ns counts, fs flags; r is the CPU-priority record.
+-- Assumes nothing.
+use mathlib.Core.Path.{_≡_}
+use mathlib.Core.Bool.{Bool}
+use mathlib.Core.List.{List}
+use Prim.Native.Nat.{ℕ, _≤_, _<_}
+use lib.ListN.{length}
+use Rattle.cpupri.specs.Record.{recordOf}
+use Rattle.levels.specs.declared.record.Record.{Record}
+use Rattle.rules.specs.Machine.{Machine, prioOf, row, levels, taskPlaces, highestPriority}
+use Rattle.rules.specs.Tables.{flatOf, rowCounts}
+use Rattle.rules.specs.WellFormed.{WellFormed}
+use Rattle.placement.specs.Held.{Held, Leaving}
+use Rattle.deciding.specs.Plan.{Plan}
+use Rattle.deciding.specs.Decided.{asPlan, When, Doable}
+use Rattle.deciding.specs.declared.plan.Decision.{Decision}
+use Rattle.deciding.specs.declared.plan.Decision.the-variants.{Refused, Nothing, Place, Flag}
+
+pub record Sized (ss ps qs cs ls ks : List ℕ) : Type 0 where
+  pub state : length ss ≡ taskPlaces
+  pub policy : length ps ≡ taskPlaces
+  pub prio : length qs ≡ taskPlaces
+  pub cpu : length cs ≡ taskPlaces
+  pub slice : length ls ≡ taskPlaces
+  pub mask : length ks ≡ taskPlaces
+
+-- all tables but the log
+pub record Holds (m : Machine) (ss ps qs cs ls ks flat ns fs : List ℕ) (r : Record) : Type 0 where
+  pub state : ss ≡ m .state
+  pub policy : ps ≡ m .policy
+  pub prio : qs ≡ m .prio
+  pub cpu : cs ≡ m .cpu
+  pub slice : ls ≡ m .slice
+  pub mask : ks ≡ m .mask
+  pub rows : flat ≡ flatOf (m .rows)
+  pub counts : ns ≡ rowCounts (m .rows)
+  pub flags : fs ≡ m .flags
+  pub levels : r ≡ recordOf (levels m)
+
+-- ---- what can be carried out
+
+abbrev pub Ready : Machine → Decision → Type 0
+Ready m (Refused a) = Unit {0}
+Ready m Nothing = Unit {0}
+Ready m (Place p) = Doable m (asPlan p)
+Ready m (Flag c b) = (c < m .n) × (b ≤ 1)
+
+pub record Carriable (m : Machine) (ss ps qs cs ls ks flat ns fs : List ℕ) (r : Record) (d : Decision) : Type 0 where
+  pub formed : WellFormed m
+  pub holds : Holds m ss ps qs cs ls ks flat ns fs r
+  pub ready : Ready m d
+
+pub record Placeable (m : Machine) (ss ps qs cs ls ks flat ns fs : List ℕ) (r : Record) (p : Plan) : Type 0 where
+  pub formed : WellFormed m
+  pub holds : Holds m ss ps qs cs ls ks flat ns fs r
+  pub ready : Doable m p
+
+pub record Flagging (m : Machine) (fs ns : List ℕ) (r : Record) (c b : ℕ) : Type 0 where
+  pub formed : WellFormed m
+  pub flags : fs ≡ m .flags
+  pub counts : ns ≡ rowCounts (m .rows)
+  pub levels : r ≡ recordOf (levels m)
+  pub cpu : c < m .n
+  pub work : b ≤ 1
+
+-- ---- leaving and entering, if it is to
+
+pub record LeavingIf (b : Bool) (m : Machine) (qs fs ns flat : List ℕ) (r : Record) (t c : ℕ) : Type 0 where
+  pub held : Held m qs ns flat r
+  pub may : When b (Leaving m qs fs ns flat r t c)
+
+pub record EnteringIf (b : Bool) (m : Machine) (qs ns flat : List ℕ) (r : Record) (t c : ℕ) : Type 0 where
+  pub held : Held m qs ns flat r
+  pub task : t < taskPlaces
+  pub may : When b ((c < m .n) × (prioOf m t ≤ highestPriority) × (length (row m c) < taskPlaces))

@@ -1,2 +1,0 @@
--- From a kind to the event.
-pub mod Dispatching

@@ -1,2 +1,0 @@
-pub mod After
-pub mod Lent
