@@ -4,7 +4,9 @@ ghost use mathlib.Core.Bool.{true};
 ghost use Prim.Native.Nat.{_<_};
 ghost use lib.ListN.{set};
 ghost use Rattle.levels.specs.Level.{known, cpuPlaces};
-ghost use Rattle.levels.specs.Record.{lentRecord, recordOf, Whole};
+ghost use Rattle.bits.specs.Moments.{old};
+ghost use Rattle.levels.specs.Record.{recordOf, Whole};
+ghost use Rattle.levels.specs.Lent.{nowRecord, newRecord};
 use super::level::Level;
 use super::record::CPUS;
 use super::record::LEVELS;
@@ -20,10 +22,10 @@ pub fn set_level(
     cpu: usize,
     level: Level,
 )
-    requires { ⌜ Whole (lentRecord (now masks) (now counts) (now words) (now levels)) ⌝ }
+    requires { ⌜ Whole (nowRecord masks counts words levels) ⌝ }
     requires { ⌜ cpu < cpuPlaces ⌝ }
     requires { ⌜ known (level .number) ≡ true ⌝ }
-    ensures { λ u. ⌜ lentRecord (now (masks .exit)) (now (counts .exit)) (now (words .exit)) (now (levels .exit)) ≡ recordOf (set (now (levels .entry)) cpu (level .number)) ⌝ }
+    ensures { λ u. ⌜ newRecord masks counts words levels ≡ recordOf (set (old levels) cpu (level .number)) ⌝ }
 {
     let invalid = Level::INVALID;
     // out of the old level
