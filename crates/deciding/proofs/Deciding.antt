@@ -8,12 +8,12 @@ use Prim.Native.Nat.{ℕ, suc, _<_}
 use native.Mathlib.Nat.{suc-ne-zero}
 use native.Mathlib.Omega.{arith}
 use lib.ListN.{length}
-use Rattle.rules.specs.Machine.{Machine, taskPlaces}
+use Rattle.rules.specs.Machine.{Machine, taskOf, row, taskPlaces}
 use Rattle.rules.specs.Events.{Event, Kind, kindOf, byKind, effectOf}
 use Rattle.rules.specs.Refusals.{firstFailing, checks, unknownKind}
 use Rattle.rules.proofs.Lists.{same?}
 use Rattle.rules.proofs.Checks.{no-kind}
-use Rattle.deciding.specs.Decided.{asTask, entries, Named, Runs, Lent, Decided, DecidedAs, Decides}
+use Rattle.deciding.specs.Decided.{asTask, entries, firstOf, subjectOf, Named, Runs, Lent, Decided, DecidedAs, Decides}
 use Rattle.deciding.specs.declared.plan.Task.{Task as Columns}
 use Rattle.deciding.specs.declared.plan.Decision.{Decision}
 use Rattle.deciding.specs.declared.plan.Decision.the-variants.{Refused}
@@ -49,8 +49,9 @@ unnamed k n1 n2 n3 n4 n5 n6 n7 n8 n9 = go (same? k 0)
 
 -- ---- what is read
 
-module _ {m : Machine} {n : ℕ} {ss ps qs cs ls ks : List ℕ} {who first : ℕ} (l : Lent m n ss ps qs cs ls ks who first) where
-  pub sized : (length ss ≡ taskPlaces) × ((length ps ≡ taskPlaces) × ((length qs ≡ taskPlaces) × ((length cs ≡ taskPlaces) × ((length ls ≡ taskPlaces) × (length ks ≡ taskPlaces)))))
+module _ {m : Machine} {n : ℕ} {ss ps qs cs ls ks : List ℕ} {t kind who : ℕ} (l : Lent m n ss ps qs cs ls ks t kind who) where
+  pub sized : (length ss ≡ taskPlaces)
+      × ((length ps ≡ taskPlaces) × ((length qs ≡ taskPlaces) × ((length cs ≡ taskPlaces) × ((length ls ≡ taskPlaces) × (length ks ≡ taskPlaces)))))
   sized = (
     ap length (l .state) ∙ l .formed .shape .state,
     (
@@ -62,8 +63,18 @@ module _ {m : Machine} {n : ℕ} {ss ps qs cs ls ks : List ℕ} {who first : ℕ
     ),
   )
 
-  pub named : {τ : Columns} (t : ℕ) → asTask τ ≡ entries ss ps qs cs ls ks t → Named m t τ
-  named t e = record { formed = l .formed; columns = e ∙ (λ i. entries (l .state i) (l .policy i) (l .prio i) (l .cpu i) (l .slice i) (l .mask i) t) }
+  module _ {τ : Columns} (read : asTask τ ≡ entries ss ps qs cs ls ks t) where
+    columns : asTask τ ≡ taskOf m t
+    columns = read ∙ (λ i. entries (l .state i) (l .policy i) (l .prio i) (l .cpu i) (l .slice i) (l .mask i) t)
 
-  pub runner : {τ : Columns} → asTask τ ≡ entries ss ps qs cs ls ks first → Runs m who first τ
-  runner e = record { formed = l .formed; first = l .runs; columns = named first e .columns }
+    -- kind j names a task
+    pub named : (j : ℕ) → kind ≡ j → subjectOf m j who ≡ who → Named m who τ
+    named j e about =
+        record {
+          formed = l .formed;
+          columns = subst (λ (u : ℕ). asTask τ ≡ taskOf m u) (l .subject ∙ ap (λ (x : ℕ). subjectOf m x who) e ∙ about) columns;
+        }
+
+    -- kind j names a CPU
+    pub runner : (j : ℕ) → kind ≡ j → subjectOf m j who ≡ firstOf (row m who) → Runs m who t τ
+    runner j e about = record { formed = l .formed; first = l .subject ∙ ap (λ (x : ℕ). subjectOf m x who) e ∙ about; columns = columns }

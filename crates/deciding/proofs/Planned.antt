@@ -4,7 +4,7 @@ use mathlib.Core.Path.{_≡_}
 use Prim.Native.Nat.{ℕ}
 use lib.Seq.{set-getD}
 use Rattle.rules.specs.Machine.{Machine, Column, taskOf, store, write}
-use Rattle.deciding.specs.Plan.{withState, withPrio, withSlice, withMask}
+use Rattle.rules.specs.Plan.{withState, withPrio, withSlice, withMask}
 
 pub write-self : (t : ℕ) (m : Machine) → write t (taskOf m t) m ≡ m
 write-self t m = simp set-getD

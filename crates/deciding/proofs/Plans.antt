@@ -13,14 +13,13 @@ use Rattle.bits.proofs.Search.{lowest-is, first-before}
 use Rattle.cpupri.specs.Found.{maskFits}
 use Rattle.rules.specs.Lists.{In}
 use Rattle.rules.specs.Machine.{Machine, Task, taskOf, freeTask, row, enqueue, dequeue, requeue, lowestAllowed, free, asleep, runnable, rr, fullSlice, cpuPlaces, taskPlaces, highestPriority}
-use Rattle.rules.specs.Tables.{nothing}
 use Rattle.rules.specs.WellFormed.{WellFormed, Fit}
 use Rattle.rules.specs.Events.{Event, added, wakeCpu, woken, slept, reprioritised, reaffined, tickedTask, ticked, yielded, toFirst, event}
 use Rattle.rules.proofs.Lists.{in-here}
-use Rattle.rules.proofs.Apart.{fit-of, runnable-fit, runnable-place, row-in, in-row}
+use Rattle.rules.proofs.Apart.{fit-of, runnable-fit, row-in, in-row}
 use Rattle.rules.proofs.Effects.{lowest-good}
-use Rattle.deciding.specs.Plan.{Plan, carried, rewrite, shift, withState, withPrio, withSlice, withMask}
-use Rattle.deciding.specs.Decided.{asTask, Named, Runs, Doable, Carries, firstOf}
+use Rattle.rules.specs.Plan.{Plan, carried, rewrite, enter, leave, shift, withState, withPrio, withSlice, withMask, Doable, Carries}
+use Rattle.deciding.specs.Decided.{asTask, Named, Runs, firstOf}
 use Rattle.deciding.specs.declared.plan.Task.{Task as Columns}
 use Rattle.deciding.proofs.Planned.{write-self, write-state, write-prio, write-slice, write-mask}
 use Rattle.deciding.proofs.Running.{some-first, no-first}
@@ -90,19 +89,29 @@ module _ {m : Machine} {t : ℕ} {τ : Columns} (l : Named m t τ) where
           ∙ ap (cond (bit (taskOf m t .mask) (taskOf m t .cpu)) (taskOf m t .cpu))
           (lowest-allowed m (taskOf m t .mask) (l .formed .shape .cpus) (asleep-fit .mask-some) (asleep-fit .mask-fits))
 
-      pub wakes : Carries (woken t m) m (record { task = t; leaves = false; origin = 0; becomes = withState runnable (taskOf m t); enters = true; target = wakeCpu m t })
+      pub wakes : Carries (woken t m) m (enter t (withState runnable (taskOf m t)) (wakeCpu m t))
       wakes =
           record {
             effect = ap (enqueue t (wakeCpu m t)) (sym (write-state t runnable m));
-            doable = record { task = ht; leaves = tt; stays = inl (λ z. let a : taskOf m t .state ≡ asleep = state-is s in omega arith); enters = (wake-small, asleep-fit .prio-high) };
+            doable = record {
+              task = ht;
+              leaves = tt;
+              stays = inl (λ z. let a : taskOf m t .state ≡ asleep = state-is s in omega arith);
+              enters = (wake-small, asleep-fit .prio-high);
+            };
           }
 
     -- kind 4
-    pub sleeps : τ .state ≡ runnable → Carries (slept t m) m (record { task = t; leaves = true; origin = taskOf m t .cpu; becomes = withState asleep (taskOf m t); enters = false; target = 0 })
+    pub sleeps : τ .state ≡ runnable → Carries (slept t m) m (leave t (taskOf m t .cpu) (withState asleep (taskOf m t)))
     sleeps s =
         record {
           effect = sym (write-state t asleep (dequeue t (taskOf m t .cpu) m));
-          doable = record { task = ht; leaves = (runnable-fit m t (l .formed) (state-is s) .cpu, row-in m t (l .formed) (state-is s)); stays = tt; enters = tt };
+          doable = record {
+            task = ht;
+            leaves = (runnable-fit m t (l .formed) (state-is s) .cpu, row-in m t (l .formed) (state-is s));
+            stays = tt;
+            enters = tt;
+          };
         }
 
     -- kind 5
@@ -151,13 +160,13 @@ module _ {m : Machine} {t : ℕ} {τ : Columns} (l : Named m t τ) where
 -- ---- the task that runs
 
 module _ {m : Machine} {c t : ℕ} {τ : Columns} (l : Runs m c t τ) where
-  pub empty : t ≡ nothing → row m c ≡ []
+  pub empty : taskPlaces ≤ t → row m c ≡ []
   empty z = no-first m c t (l .formed) (l .first) z
 
-  pub ticked-empty : t ≡ nothing → ticked c m ≡ m
+  pub ticked-empty : taskPlaces ≤ t → ticked c m ≡ m
   ticked-empty z = ap (toFirst (λ (t : ℕ). tickedTask t c m) m) (empty z)
 
-  module _ (some : t ≢ nothing) where
+  module _ (some : t < taskPlaces) where
     pub runs : (ts : List ℕ) × (row m c ≡ t ∷ ts)
     runs = some-first t (row m c) (l .first) some
 
@@ -167,13 +176,10 @@ module _ {m : Machine} {c t : ℕ} {τ : Columns} (l : Runs m c t τ) where
     named : Named m t τ
     named = record { formed = l .formed; columns = l .columns }
 
-    place : t < taskPlaces
-    place = runnable-place m t (l .formed) (stands .0)
-
     behind : (σ : Task) → σ .prio ≡ taskOf m t .prio → Doable m (shift t c σ c)
     behind σ e =
         subst (λ (d : ℕ). Doable m (shift t d σ d)) (stands .1)
-        (shifted named place σ (taskOf m t .cpu) (stands .0) (runnable-fit m t (l .formed) (stands .0) .cpu)
+        (shifted named some σ (taskOf m t .cpu) (stands .0) (runnable-fit m t (l .formed) (stands .0) .cpu)
         (subst (λ (x : ℕ). x ≤ highestPriority) (sym e) (runnable-fit m t (l .formed) (stands .0) .prio-high)))
 
     ticked-is : ticked c m ≡ tickedTask t c m
@@ -194,7 +200,7 @@ module _ {m : Machine} {c t : ℕ} {τ : Columns} (l : Runs m c t τ) where
       ticks-less h =
           record {
             effect = ticked-is ∙ rw (is-rr, ne-eqb (taskOf m t .slice - 1) 0 (λ e. omega (arith, slice-is))) (sym (write-slice t (taskOf m t .slice - 1) m));
-            doable = kept named place (withSlice (taskOf m t .slice - 1) (taskOf m t)) refl;
+            doable = kept named some (withSlice (taskOf m t .slice - 1) (taskOf m t)) refl;
           }
 
       pub ticks-again : τ .slice ≤ 1 → Carries (ticked c m) m (shift t c (withSlice fullSlice (taskOf m t)) c)

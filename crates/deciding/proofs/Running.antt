@@ -59,11 +59,11 @@ module _ {m : Machine} {n : ℕ} {flat ns : List ℕ} (l : LentRows m n flat ns)
 
 -- ---- what it says of the row
 
-pub some-first : (t : ℕ) (r : List ℕ) → t ≡ firstOf r → t ≢ nothing → (ts : List ℕ) × (r ≡ t ∷ ts)
-some-first t [] e n = absurd (n e)
-some-first t (u ∷ us) e n = (us, ap (λ (x : ℕ). x ∷ us) (sym e))
+pub some-first : (t : ℕ) (r : List ℕ) → t ≡ firstOf r → t < taskPlaces → (ts : List ℕ) × (r ≡ t ∷ ts)
+some-first t [] e h = absurd (omega arith)
+some-first t (u ∷ us) e h = (us, ap (λ (x : ℕ). x ∷ us) (sym e))
 
-pub no-first : (m : Machine) (c t : ℕ) → WellFormed m → t ≡ firstOf (row m c) → t ≡ nothing → row m c ≡ []
+pub no-first : (m : Machine) (c t : ℕ) → WellFormed m → t ≡ firstOf (row m c) → taskPlaces ≤ t → row m c ≡ []
 no-first m c t w e z = go (row m c) refl
   where
     go : (r : List ℕ) → row m c ≡ r → r ≡ []

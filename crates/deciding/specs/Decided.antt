@@ -1,18 +1,18 @@
 -- What a decision says of an event on a well-formed machine, and what it is decided from.
 -- Assumes nothing.
 use mathlib.Core.Path.{_≡_}
-use mathlib.Core.Bool.{Bool, true, false, not}
-use mathlib.Core.Logic.{_≢_, _⊎_}
+use mathlib.Core.Bool.{cond}
+use mathlib.Core.Logic.{_≢_}
 use mathlib.Core.List.{List, [], _∷_}
 use Prim.Native.Nat.{ℕ, _≤_, _<_}
+use lib.Dec.{leb}
 use lib.ListN.{getD}
-use Rattle.rules.specs.Lists.{In}
-use Rattle.rules.specs.Machine.{Machine, Task, taskOf, row, runnable, withFlag, taskPlaces, highestPriority}
+use Rattle.rules.specs.Machine.{Machine, Task, taskOf, row, withFlag}
 use Rattle.rules.specs.Tables.{nothing, flatOf, rowCounts}
 use Rattle.rules.specs.WellFormed.{WellFormed}
 use Rattle.rules.specs.Events.{Event, Kind, effectOf, effect}
+use Rattle.rules.specs.Plan.{Plan, carried, Carries}
 use Rattle.rules.specs.Refusals.{firstFailing, checks, refusal}
-use Rattle.deciding.specs.Plan.{Plan, carried}
 use Rattle.deciding.specs.declared.plan.Task.{Task as Columns}
 use Rattle.deciding.specs.declared.plan.Plan.{Plan as Written}
 use Rattle.deciding.specs.declared.plan.Decision.{Decision}
@@ -43,30 +43,19 @@ abbrev pub firstOf : List ℕ → ℕ
 firstOf [] = nothing
 firstOf (t ∷ ts) = t
 
+-- kinds up to this one name a task, later ones a CPU
+abbrev pub lastTaskKind : ℕ
+lastTaskKind = 6
+
+-- the task that an event is about: the one that it names, or the one that runs on the CPU that it names
+abbrev pub subjectOf : Machine → ℕ → ℕ → ℕ
+subjectOf m kind who = cond (leb kind lastTaskKind) who (firstOf (row m who))
+
 -- the task t that runs on CPU c, with its columns τ
 pub record Runs (m : Machine) (c t : ℕ) (τ : Columns) : Type 0 where
   pub formed : WellFormed m
   pub first : t ≡ firstOf (row m c)
   pub columns : asTask τ ≡ taskOf m t
-
--- ---- a plan that can be carried out
-
-abbrev pub When : Bool → Type 0 → Type 0
-When true A = A
-When false A = Unit {0}
-
-pub record Doable (m : Machine) (p : Plan) : Type 0 where
-  pub task : p .task < taskPlaces
-  -- it stands where it leaves
-  pub leaves : When (p .leaves) ((p .origin < m .n) × In (p .task) (row m (p .origin)))
-  -- it stands in no row, or stays there with its priority
-  pub stays : When (not (p .leaves)) ((taskOf m (p .task) .state ≢ runnable) ⊎ ((p .becomes .prio ≡ taskOf m (p .task) .prio) × (p .enters ≡ false)))
-  pub enters : When (p .enters) ((p .target < m .n) × (p .becomes .prio ≤ highestPriority))
-
--- the plan p leaves the machine `done`
-pub record Carries (done m : Machine) (p : Plan) : Type 0 where
-  pub effect : done ≡ carried p m
-  pub doable : Doable m p
 
 -- ---- decisions
 
@@ -92,7 +81,7 @@ Decides m e d = Decided (refusal m e) (effect e m) m d
 
 -- ---- what is lent
 
-pub record Lent (m : Machine) (n : ℕ) (ss ps qs cs ls ks : List ℕ) (who first : ℕ) : Type 0 where
+pub record Lent (m : Machine) (n : ℕ) (ss ps qs cs ls ks : List ℕ) (t kind who : ℕ) : Type 0 where
   pub formed : WellFormed m
   pub cpus : n ≡ m .n
   pub state : ss ≡ m .state
@@ -101,7 +90,7 @@ pub record Lent (m : Machine) (n : ℕ) (ss ps qs cs ls ks : List ℕ) (who firs
   pub cpu : cs ≡ m .cpu
   pub slice : ls ≡ m .slice
   pub mask : ks ≡ m .mask
-  pub runs : first ≡ firstOf (row m who)
+  pub subject : t ≡ subjectOf m kind who
 
 pub record LentRows (m : Machine) (n : ℕ) (flat ns : List ℕ) : Type 0 where
   pub formed : WellFormed m

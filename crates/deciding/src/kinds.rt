@@ -1,5 +1,6 @@
-// The nine kinds, each with its checks in the paper's order and then its effect. `who` is the number in the event, `task` what stands in the
-// columns of the task that it names; `first` is the task that runs on the CPU that it names and `runner` what stands in its columns.
+// The nine kinds, each with its checks in the paper's order and then its effect. `who` is the number in the event. Kinds 1 to 6
+// have in `named` what stands in the columns of the task that it names; a tick and a yield have in `at` the task that runs on
+// the CPU that it names, and in `runner` what stands in its columns.
 ghost use mathlib.Core.Path.{_≡_};
 ghost use mathlib.Core.Bool.{cond, _&&_, _||_};
 ghost use Prim.Native.Nat.{ℕ, _≤_, _<_};
@@ -7,7 +8,8 @@ ghost use lib.Dec.{eqb, leb};
 ghost use Rattle.bits.specs.Bit.{bit, lowest as lowestBit};
 ghost use Rattle.cpupri.specs.Level.{cpuPlaces};
 ghost use Rattle.rules.specs.Machine.{Machine, fifo, rr, lowestPriority, highestPriority};
-ghost use Rattle.rules.specs.Events.{event, add as addKind, remove as removeKind, wake as wakeKind, sleep as sleepKind, set-priority, set-affinity, tick as tickKind, yield, set-ordinary};
+ghost use Rattle.rules.specs.Events.{event, add as addKind, remove as removeKind, wake as wakeKind, sleep as sleepKind};
+ghost use Rattle.rules.specs.Events.{set-priority, set-affinity, tick as tickKind, yield, set-ordinary};
 ghost use Rattle.deciding.specs.Decided.{Named, Runs, DecidedAs};
 use super::plan::Decision;
 use super::plan::Plan;
@@ -15,7 +17,6 @@ use super::plan::Task;
 use cpupri::find::mask_fits;
 use rules::answer;
 use rules::task;
-use runqueue::row::NOTHING;
 use runqueue::row::PLACES;
 
 // there is ordinary work; 0: there is none
@@ -92,14 +93,7 @@ pub fn wake(named: Task, who: u32) -> Decision
     let target = wake_cpu(named.cpu as usize, named.mask);
     let mut becomes = named;
     becomes.state = task::RUNNABLE;
-    Decision::Place(Plan {
-        task: who as u16,
-        leaves: false,
-        origin: 0,
-        becomes,
-        enters: true,
-        target,
-    })
+    Decision::Place(Plan::enter(who as u16, becomes, target))
 }
 
 // Kind 4: a runnable task leaves its row. Its CPU and its slice are kept.
@@ -114,14 +108,7 @@ pub fn sleep(named: Task, who: u32) -> Decision
     }
     let mut becomes = named;
     becomes.state = task::ASLEEP;
-    Decision::Place(Plan {
-        task: who as u16,
-        leaves: true,
-        origin: named.cpu as usize,
-        becomes,
-        enters: false,
-        target: 0,
-    })
+    Decision::Place(Plan::leave(who as u16, named.cpu as usize, becomes))
 }
 
 // Kind 5. Asleep: the number only. Runnable and unchanged: nothing. Runnable and changed: the task
@@ -183,14 +170,14 @@ pub fn set_affinity(n: usize, named: Task, who: u32, k: u64) -> Decision
 
 // Kind 7: an RR task has a tick less; at 0 its slice is full again and it goes behind its equals.
 // Nothing happens to a FIFO task or to an empty row.
-pub fn tick(n: usize, first: u16, runner: Task, who: u32) -> Decision
-    ensures { λ r. ⌜ ((m : Machine) (kind a b k : ℕ) → n ≡ m .n → Runs m who first runner → DecidedAs tickKind m (event kind who a b k) r) ⌝ }
+pub fn tick(n: usize, at: usize, runner: Task, who: u32) -> Decision
+    ensures { λ r. ⌜ ((m : Machine) (kind a b k : ℕ) → n ≡ m .n → Runs m who at runner → DecidedAs tickKind m (event kind who a b k) r) ⌝ }
 {
     let cpu = who as usize;
     if n <= cpu {
         return Decision::Refused(answer::BAD_NUMBER);
     }
-    if first == NOTHING {
+    if PLACES <= at {
         return Decision::Nothing;
     }
     if runner.policy != task::RR {
@@ -199,25 +186,25 @@ pub fn tick(n: usize, first: u16, runner: Task, who: u32) -> Decision
     if 1 < runner.slice {
         let mut less = runner;
         less.slice = runner.slice - 1;
-        return Decision::Place(Plan::rewrite(first, less));
+        return Decision::Place(Plan::rewrite(at as u16, less));
     }
     let mut full = runner;
     full.slice = task::FULL_SLICE;
-    Decision::Place(Plan::shift(first, cpu, full, cpu))
+    Decision::Place(Plan::shift(at as u16, cpu, full, cpu))
 }
 
 // Kind 8: the first task goes behind its equals. Its slice is kept.
-pub fn yield_cpu(n: usize, first: u16, runner: Task, who: u32) -> Decision
-    ensures { λ r. ⌜ ((m : Machine) (kind a b k : ℕ) → n ≡ m .n → Runs m who first runner → DecidedAs yield m (event kind who a b k) r) ⌝ }
+pub fn yield_cpu(n: usize, at: usize, runner: Task, who: u32) -> Decision
+    ensures { λ r. ⌜ ((m : Machine) (kind a b k : ℕ) → n ≡ m .n → Runs m who at runner → DecidedAs yield m (event kind who a b k) r) ⌝ }
 {
     let cpu = who as usize;
     if n <= cpu {
         return Decision::Refused(answer::BAD_NUMBER);
     }
-    if first == NOTHING {
+    if PLACES <= at {
         return Decision::Refused(answer::EMPTY_ROW);
     }
-    Decision::Place(Plan::shift(first, cpu, runner, cpu))
+    Decision::Place(Plan::shift(at as u16, cpu, runner, cpu))
 }
 
 // Kind 9: whether a CPU has ordinary work.

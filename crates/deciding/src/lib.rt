@@ -1,7 +1,7 @@
-// What an event of any kind does, decided from the columns of the task that it names and of the one that runs on the CPU that it names. Nothing
-// is written.
+// What an event of any kind does, decided from the columns of the task that it is about. Nothing is written.
 ghost use Rattle.rules.specs.Machine.{Machine};
 ghost use Rattle.rules.specs.Events.{event};
+ghost use Rattle.bits.specs.Moments.{old};
 ghost use Rattle.deciding.specs.Decided.{Lent, Decides};
 
 pub mod kinds;
@@ -11,6 +11,7 @@ pub mod read;
 use plan::Decision;
 use rules::answer::UNKNOWN_KIND;
 
+// `at` is the task that the event is about: `read::subject`.
 pub fn decide(
     n: usize,
     state: &[u8],
@@ -19,27 +20,29 @@ pub fn decide(
     cpu: &[u8],
     slice: &[u16],
     mask: &[u64],
-    first: u16,
+    at: usize,
     kind: u32,
     who: u32,
     a: u32,
     b: u32,
     k: u64,
 ) -> Decision
-    requires { ⌜ ((m : Machine) × Lent m n (now state) (now policy) (now prio) (now cpu) (now slice) (now mask) who first) ⌝ }
-    ensures { λ r. ⌜ ((m : Machine) → Lent m n (now (state .entry)) (now (policy .entry)) (now (prio .entry)) (now (cpu .entry)) (now (slice .entry)) (now (mask .entry)) who first → Decides m (event kind who a b k) r) ⌝ }
+    requires { ⌜ ((m : Machine)
+        × Lent m n (now state) (now policy) (now prio) (now cpu) (now slice) (now mask) at kind who) ⌝ }
+    ensures { λ r. ⌜ ((m : Machine)
+        → Lent m n (old state) (old policy) (old prio) (old cpu) (old slice) (old mask) at kind who
+        → Decides m (event kind who a b k) r) ⌝ }
 {
-    let named = read::task_at(state, policy, prio, cpu, slice, mask, who as usize);
-    let runner = read::task_at(state, policy, prio, cpu, slice, mask, first as usize);
+    let task = read::task_at(state, policy, prio, cpu, slice, mask, at);
     match kind {
-        1 => kinds::add(n, named, who, a, b, k),
-        2 => kinds::remove(named, who),
-        3 => kinds::wake(named, who),
-        4 => kinds::sleep(named, who),
-        5 => kinds::set_priority(named, who, b),
-        6 => kinds::set_affinity(n, named, who, k),
-        7 => kinds::tick(n, first, runner, who),
-        8 => kinds::yield_cpu(n, first, runner, who),
+        1 => kinds::add(n, task, who, a, b, k),
+        2 => kinds::remove(task, who),
+        3 => kinds::wake(task, who),
+        4 => kinds::sleep(task, who),
+        5 => kinds::set_priority(task, who, b),
+        6 => kinds::set_affinity(n, task, who, k),
+        7 => kinds::tick(n, at, task, who),
+        8 => kinds::yield_cpu(n, at, task, who),
         9 => kinds::set_ordinary(n, who, b),
         _ => Decision::Refused(UNKNOWN_KIND),
     }

@@ -1,6 +1,6 @@
 // What an event does, decided before anything is written.
 ghost use mathlib.Core.Path.{_≡_};
-ghost use Rattle.deciding.specs.Plan.{rewrite as rewriting, shift as shifting};
+ghost use Rattle.rules.specs.Plan.{rewrite as rewriting, enter as entering, leave as leaving, shift as shifting};
 ghost use Rattle.deciding.specs.Decided.{asTask, asPlan};
 
 // A task place: its entry in each of the six columns.
@@ -43,6 +43,34 @@ impl Plan {
             task,
             leaves: false,
             origin: 0,
+            becomes,
+            enters: false,
+            target: 0,
+        }
+    }
+
+    // Into a row.
+    pub fn enter(task: u16, becomes: Task, target: usize) -> Plan
+        ensures { λ r. ⌜ asPlan r ≡ entering task (asTask becomes) target ⌝ }
+    {
+        Plan {
+            task,
+            leaves: false,
+            origin: 0,
+            becomes,
+            enters: true,
+            target,
+        }
+    }
+
+    // Out of a row.
+    pub fn leave(task: u16, origin: usize, becomes: Task) -> Plan
+        ensures { λ r. ⌜ asPlan r ≡ leaving task origin (asTask becomes) ⌝ }
+    {
+        Plan {
+            task,
+            leaves: true,
+            origin,
             becomes,
             enters: false,
             target: 0,

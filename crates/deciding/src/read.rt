@@ -1,11 +1,15 @@
-// What an event is decided from: the task that it names, and the one that runs on the CPU that it names.
+// What an event is decided from: the task that it is about.
 ghost use mathlib.Core.Path.{_≡_};
 ghost use lib.ListN.{length};
 ghost use Rattle.rules.specs.Machine.{Machine, taskPlaces, row};
-ghost use Rattle.deciding.specs.Decided.{asTask, entries, firstOf, LentRows};
+ghost use Rattle.bits.specs.Moments.{old};
+ghost use Rattle.deciding.specs.Decided.{asTask, entries, firstOf, subjectOf, LentRows};
 use super::plan::Task;
 use runqueue::row::NOTHING;
 use runqueue::row::PLACES;
+
+// kinds up to this one name a task, later ones a CPU
+const LAST_TASK_KIND: u32 = 6;
 
 // The task's entry in every column; a number that is no task place reads as a free one.
 pub fn task_at(
@@ -23,7 +27,7 @@ pub fn task_at(
     requires { ⌜ length (now cpu) ≡ taskPlaces ⌝ }
     requires { ⌜ length (now slice) ≡ taskPlaces ⌝ }
     requires { ⌜ length (now mask) ≡ taskPlaces ⌝ }
-    ensures { λ r. ⌜ asTask r ≡ entries (now (state .entry)) (now (policy .entry)) (now (prio .entry)) (now (cpu .entry)) (now (slice .entry)) (now (mask .entry)) at ⌝ }
+    ensures { λ r. ⌜ asTask r ≡ entries (old state) (old policy) (old prio) (old cpu) (old slice) (old mask) at ⌝ }
 {
     if PLACES <= at {
         return Task {
@@ -45,12 +49,23 @@ pub fn task_at(
     }
 }
 
-// The task that runs on a CPU; 65535 if none does, or there is no such CPU.
-pub fn running(n: usize, rows: &[u16], counts: &[u16], who: u32) -> u16
+// The task that an event is about: the one that it names (kinds 1 to 6) or the one that runs on the CPU that it names. 65535 if
+// none runs there, or there is no such CPU.
+pub fn subject(n: usize, rows: &[u16], counts: &[u16], kind: u32, who: u32) -> usize
     requires { ⌜ ((m : Machine) × LentRows m n (now rows) (now counts)) ⌝ }
-    ensures { λ r. ⌜ ((m : Machine) → LentRows m n (now (rows .entry)) (now (counts .entry)) → r ≡ firstOf (row m who)) ⌝ }
+    ensures { λ r. ⌜ ((m : Machine) → LentRows m n (old rows) (old counts) → r ≡ subjectOf m kind who) ⌝ }
 {
-    let cpu = who as usize;
+    if kind <= LAST_TASK_KIND {
+        return who as usize;
+    }
+    running(n, rows, counts, who as usize) as usize
+}
+
+// The task that runs on a CPU; 65535 if none does, or there is no such CPU.
+fn running(n: usize, rows: &[u16], counts: &[u16], cpu: usize) -> u16
+    requires { ⌜ ((m : Machine) × LentRows m n (now rows) (now counts)) ⌝ }
+    ensures { λ r. ⌜ ((m : Machine) → LentRows m n (old rows) (old counts) → r ≡ firstOf (row m cpu)) ⌝ }
+{
     if n <= cpu {
         return NOTHING;
     }

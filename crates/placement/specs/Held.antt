@@ -29,14 +29,6 @@ pub record Held (m : Machine) (ps ks flat : List ℕ) (r : Record) : Type 0 wher
   pub rows : flat ≡ flatOf (m .rows)
   pub levels : r ≡ recordOf (levels m)
 
--- task t can leave row c; the list fs holds the flags
-pub record Leaving (m : Machine) (ps fs ks flat : List ℕ) (r : Record) (t c : ℕ) : Type 0 where
-  pub held : Held m ps ks flat r
-  pub flags : fs ≡ m .flags
-  pub flag-count : length (m .flags) ≡ m .n
-  pub cpu : c < m .n
-  pub stands : In t (row m c)
-
 -- task t can enter row c
 pub record Entering (m : Machine) (ps ks flat : List ℕ) (r : Record) (t c : ℕ) : Type 0 where
   pub held : Held m ps ks flat r
@@ -44,3 +36,15 @@ pub record Entering (m : Machine) (ps ks flat : List ℕ) (r : Record) (t c : �
   pub task : t < taskPlaces
   pub high : prioOf m t ≤ highestPriority
   pub room : length (row m c) < taskPlaces
+
+-- the lists ks (counts) and flat (rows) hold the machine's run queues, whatever the record holds
+abbrev pub Queues : Machine → List ℕ → List ℕ → Type 0
+Queues m ks flat = Held m (m .prio) ks flat (recordOf (levels m))
+
+-- the level of CPU c can be read off the lists; fs holds the flags
+pub record Following (m : Machine) (ps fs ks flat : List ℕ) (c : ℕ) : Type 0 where
+  pub queues : Queues m ks flat
+  pub prio : ps ≡ m .prio
+  pub flags : fs ≡ m .flags
+  pub flag-count : length (m .flags) ≡ m .n
+  pub cpu : c < m .n

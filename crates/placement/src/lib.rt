@@ -1,24 +1,27 @@
-// A task leaves or enters a run queue, and its CPU's level follows at once: the tables of rows and
-// the CPU-priority record change together.
+// A task enters a run queue, and its CPU's level follows at once: the tables of rows and the CPU-priority record change together.
+// Where more than one row changes, each CPU's level follows when they have.
 ghost use mathlib.Core.Path.{_≡_};
 ghost use Prim.Native.Nat.{ℕ, _*_, _≤_, _<_};
 ghost use lib.ListN.{length, getD, set};
-ghost use Rattle.cpupri.specs.Record.{lentRecord};
+ghost use Rattle.bits.specs.Moments.{old};
+ghost use Rattle.cpupri.specs.Record.{lentRecord, recordOf, Whole};
+ghost use Rattle.levels.specs.Lent.{nowRecord, newRecord};
 ghost use Rattle.cpupri.specs.Level.{levelOf};
 ghost use Rattle.rules.specs.Lists.{In};
-ghost use Rattle.rules.specs.Machine.{Machine, taskPlaces, highestPriority, rowLevel, enqueue, dequeue};
+ghost use Rattle.rules.specs.Machine.{Machine, taskPlaces, highestPriority, level, rowLevel, enqueue};
 ghost use Rattle.runqueue.specs.Table.{HoldsRows, rowAt};
-ghost use Rattle.placement.specs.Held.{Held, Leaving, Entering};
+ghost use Rattle.placement.specs.Held.{Held, Entering, Following};
 use cpupri::lent::set_level;
 use cpupri::level::Level;
 use cpupri::record::CPUS;
 use cpupri::record::LEVELS;
 use cpupri::record::WORDS;
 
-// The task leaves the row of its CPU.
-pub fn leave(
-    rows: &mut [u16],
-    counts: &mut [u16],
+// The CPU's level follows its row: it is that of the first task or, with an empty row, the ordinary-work flag. One that stays
+// the same is not written.
+pub fn follow(
+    rows: &[u16],
+    counts: &[u16],
     prio: &[u8],
     flags: &[u8],
     masks: &mut [u64; LEVELS],
@@ -26,13 +29,16 @@ pub fn leave(
     words: &mut [u64; WORDS],
     levels: &mut [u8; CPUS],
     cpu: usize,
-    task: u16,
 )
-    requires { ⌜ ((m : Machine) × Leaving m (now prio) (now flags) (now counts) (now rows) (lentRecord (now masks) (now tallies) (now words) (now levels)) task cpu) ⌝ }
-    ensures { λ u. ⌜ ((m : Machine) → Leaving m (now (prio .entry)) (now (flags .entry)) (now (counts .entry)) (now (rows .entry)) (lentRecord (now (masks .entry)) (now (tallies .entry)) (now (words .entry)) (now (levels .entry))) task cpu → Held (dequeue task cpu m) (now (prio .entry)) (now (counts .exit)) (now (rows .exit)) (lentRecord (now (masks .exit)) (now (tallies .exit)) (now (words .exit)) (now (levels .exit)))) ⌝ }
+    requires { ⌜ ((m : Machine) × Following m (now prio) (now flags) (now counts) (now rows) cpu) ⌝ }
+    requires { ⌜ Whole (nowRecord masks tallies words levels) ⌝ }
+    ensures { λ u. ⌜ ((m : Machine) → Following m (old prio) (old flags) (old counts) (old rows) cpu
+        → newRecord masks tallies words levels ≡ recordOf (set (old levels) cpu (level m cpu))) ⌝ }
 {
-    runqueue::table::dequeue(rows, counts, cpu, task);
     let level = cpu_level(rows, counts, prio, flags, cpu);
+    if level.number == levels[cpu] {
+        return;
+    }
     set_level(masks, tallies, words, levels, cpu, level);
 }
 

@@ -3,6 +3,7 @@ pub mod Lists
 pub mod Machine
 pub mod WellFormed
 pub mod Events
+pub mod Plan
 pub mod Refusals
 pub mod Migration
 pub mod Outcome

@@ -1,26 +1,34 @@
--- `deciding::decide` meets its contract. Assumes nothing.
+-- `deciding::decide` meets its contract: each arm by its kind's contract.
+-- Assumes nothing.
 use borrow.Author.Needs.{needs}
-use mathlib.Core.Path.{ap, subst, sym}
+use mathlib.Core.Path.{_≡_, refl, ap, subst, sym}
 use Prim.Native.Nat.{ℕ, _≤_}
-use Rattle.rules.specs.Events.{event, kindOf, add, remove, wake, sleep, set-priority, set-affinity, tick, yield, set-ordinary}
+use Rattle.rules.specs.Machine.{cpuPlaces}
+use Rattle.rules.specs.Events.{Event, event, kindOf, add, remove, wake, sleep, set-priority, set-affinity, tick, yield, set-ordinary}
 use Rattle.deciding.proofs.Deciding.{by-kind, unknown, unnamed, sized, named, runner}
 use Rattle.deciding.proofs.decide.Statement.{statement}
 use Rattle.deciding.proofs.decide.Tie as tie
+use Rattle.deciding.proofs.decide.Proof.Paths as at
+mod Paths
+
+module _ (c : tie.Start) where
+  abbrev asked : Event
+  asked = let x = c .args in event (x .kind) (x .who) (x .a) (x .b) (x .k)
+
+  few-cpus : c .args .n ≤ cpuPlaces
+  few-cpus = subst (λ (x : ℕ). x ≤ cpuPlaces) (sym (c .pre .1 .cpus)) (c .pre .1 .formed .shape .cpus)
 
 task-at-requires : tie.Need-task-at-requires
-task-at-requires c κs = sized (c .before .before .before .before .before .before .pre .1)
-
-task-at-requires-2 : tie.Need-task-at-requires-2
-task-at-requires-2 c κs = sized (c .before .before .before .before .before .before .before .pre .1)
+task-at-requires c κs = sized (at.task-at-requires c .pre .1)
 
 add-requires : tie.Need-add-requires
-add-requires c κs = subst (λ (x : ℕ). x ≤ 64) (sym (c .before .before .before .before .before .before .before .before .before .pre .1 .cpus)) (c .before .before .before .before .before .before .before .before .before .pre .1 .formed .shape .cpus)
+add-requires c κs = few-cpus (at.add-requires c .start)
 
 remove-requires : tie.Need-remove-requires
 remove-requires c κs = search needs
 
 wake-requires : tie.Need-wake-requires
-wake-requires c κs = (c .before .before .before .before .before .before .before .before .before .pre .0, named (c .before .before .before .before .before .before .before .before .before .pre .1) (c .before .before .before .before .before .before .before .before .before .args .who) (c .before .before .task-at .ensures))
+wake-requires c κs = let k = at.wake-requires c in (k .pre .0, named (k .pre .1) (k .task-at .ensures) 3 (k .match .keys3) refl)
 
 sleep-requires : tie.Need-sleep-requires
 sleep-requires c κs = search needs
@@ -29,7 +37,9 @@ set-priority-requires : tie.Need-set-priority-requires
 set-priority-requires c κs = search needs
 
 set-affinity-requires : tie.Need-set-affinity-requires
-set-affinity-requires c κs = (subst (λ (x : ℕ). x ≤ 64) (sym (c .before .before .before .before .before .before .before .before .before .pre .1 .cpus)) (c .before .before .before .before .before .before .before .before .before .pre .1 .formed .shape .cpus), (c .before .before .before .before .before .before .before .before .before .pre .0, named (c .before .before .before .before .before .before .before .before .before .pre .1) (c .before .before .before .before .before .before .before .before .before .args .who) (c .before .before .task-at .ensures)))
+set-affinity-requires c κs =
+    let k = at.set-affinity-requires c in
+    (few-cpus (k .start), (k .pre .0, named (k .pre .1) (k .task-at .ensures) 6 (k .match .keys6) refl))
 
 tick-requires : tie.Need-tick-requires
 tick-requires c κs = search needs
@@ -41,41 +51,90 @@ set-ordinary-requires : tie.Need-set-ordinary-requires
 set-ordinary-requires c κs = search needs
 
 returns : tie.Need-returns
-returns c = λ m l. let x = c .before .before .before .before .before .before .before .before .before .before .args in by-kind m (event (x .kind) (x .who) (x .a) (x .b) (x .k)) add _ (ap kindOf (c .before .match .keys1)) (c .add .ensures m (x .kind) (l .cpus) (named l (x .who) (c .before .before .before .task-at .ensures)))
+returns c =
+    λ m l.
+    let k = at.returns c in
+    let x = k .args in
+    by-kind m (asked (k .start)) add _ (ap kindOf (k .match .keys1))
+    (k .add .ensures m (x .kind) (l .cpus) (named l (k .task-at .ensures) 1 (k .match .keys1) refl))
 
 returns-2 : tie.Need-returns-2
-returns-2 c = λ m l. let x = c .before .before .before .before .before .before .before .before .before .before .args in by-kind m (event (x .kind) (x .who) (x .a) (x .b) (x .k)) remove _ (ap kindOf (c .before .match .keys2)) (c .remove .ensures m (x .kind) (x .a) (x .b) (x .k) (named l (x .who) (c .before .before .before .task-at .ensures)))
+returns-2 c =
+    λ m l.
+    let k = at.returns-2 c in
+    let x = k .args in
+    by-kind m (asked (k .start)) remove _ (ap kindOf (k .match .keys2))
+    (k .remove .ensures m (x .kind) (x .a) (x .b) (x .k) (named l (k .task-at .ensures) 2 (k .match .keys2) refl))
 
 returns-3 : tie.Need-returns-3
-returns-3 c = λ m l. let x = c .before .before .before .before .before .before .before .before .before .before .args in by-kind m (event (x .kind) (x .who) (x .a) (x .b) (x .k)) wake _ (ap kindOf (c .before .match .keys3)) (c .wake .ensures m (x .kind) (x .a) (x .b) (x .k) (named l (x .who) (c .before .before .before .task-at .ensures)))
+returns-3 c =
+    λ m l.
+    let k = at.returns-3 c in
+    let x = k .args in
+    by-kind m (asked (k .start)) wake _ (ap kindOf (k .match .keys3))
+    (k .wake .ensures m (x .kind) (x .a) (x .b) (x .k) (named l (k .task-at .ensures) 3 (k .match .keys3) refl))
 
 returns-4 : tie.Need-returns-4
-returns-4 c = λ m l. let x = c .before .before .before .before .before .before .before .before .before .before .args in by-kind m (event (x .kind) (x .who) (x .a) (x .b) (x .k)) sleep _ (ap kindOf (c .before .match .keys4)) (c .sleep .ensures m (x .kind) (x .a) (x .b) (x .k) (named l (x .who) (c .before .before .before .task-at .ensures)))
+returns-4 c =
+    λ m l.
+    let k = at.returns-4 c in
+    let x = k .args in
+    by-kind m (asked (k .start)) sleep _ (ap kindOf (k .match .keys4))
+    (k .sleep .ensures m (x .kind) (x .a) (x .b) (x .k) (named l (k .task-at .ensures) 4 (k .match .keys4) refl))
 
 returns-5 : tie.Need-returns-5
-returns-5 c = λ m l. let x = c .before .before .before .before .before .before .before .before .before .before .args in by-kind m (event (x .kind) (x .who) (x .a) (x .b) (x .k)) set-priority _ (ap kindOf (c .before .match .keys5)) (c .set-priority .ensures m (x .kind) (x .a) (x .k) (named l (x .who) (c .before .before .before .task-at .ensures)))
+returns-5 c =
+    λ m l.
+    let k = at.returns-5 c in
+    let x = k .args in
+    by-kind m (asked (k .start)) set-priority _ (ap kindOf (k .match .keys5))
+    (k .set-priority .ensures m (x .kind) (x .a) (x .k) (named l (k .task-at .ensures) 5 (k .match .keys5) refl))
 
 returns-6 : tie.Need-returns-6
-returns-6 c = λ m l. let x = c .before .before .before .before .before .before .before .before .before .before .args in by-kind m (event (x .kind) (x .who) (x .a) (x .b) (x .k)) set-affinity _ (ap kindOf (c .before .match .keys6)) (c .set-affinity .ensures m (x .kind) (x .a) (x .b) (l .cpus) (named l (x .who) (c .before .before .before .task-at .ensures)))
+returns-6 c =
+    λ m l.
+    let k = at.returns-6 c in
+    let x = k .args in
+    by-kind m (asked (k .start)) set-affinity _ (ap kindOf (k .match .keys6))
+    (k .set-affinity .ensures m (x .kind) (x .a) (x .b) (l .cpus) (named l (k .task-at .ensures) 6 (k .match .keys6) refl))
 
 returns-7 : tie.Need-returns-7
-returns-7 c = λ m l. let x = c .before .before .before .before .before .before .before .before .before .before .args in by-kind m (event (x .kind) (x .who) (x .a) (x .b) (x .k)) tick _ (ap kindOf (c .before .match .keys7)) (c .tick .ensures m (x .kind) (x .a) (x .b) (x .k) (l .cpus) (runner l (c .before .before .task-at2 .ensures)))
+returns-7 c =
+    λ m l.
+    let k = at.returns-7 c in
+    let x = k .args in
+    by-kind m (asked (k .start)) tick _ (ap kindOf (k .match .keys7))
+    (k .tick .ensures m (x .kind) (x .a) (x .b) (x .k) (l .cpus) (runner l (k .task-at .ensures) 7 (k .match .keys7) refl))
 
 returns-8 : tie.Need-returns-8
-returns-8 c = λ m l. let x = c .before .before .before .before .before .before .before .before .before .before .args in by-kind m (event (x .kind) (x .who) (x .a) (x .b) (x .k)) yield _ (ap kindOf (c .before .match .keys8)) (c .yield-cpu .ensures m (x .kind) (x .a) (x .b) (x .k) (l .cpus) (runner l (c .before .before .task-at2 .ensures)))
+returns-8 c =
+    λ m l.
+    let k = at.returns-8 c in
+    let x = k .args in
+    by-kind m (asked (k .start)) yield _ (ap kindOf (k .match .keys8))
+    (k .yield-cpu .ensures m (x .kind) (x .a) (x .b) (x .k) (l .cpus) (runner l (k .task-at .ensures) 8 (k .match .keys8) refl))
 
 returns-9 : tie.Need-returns-9
-returns-9 c = λ m l. let x = c .before .before .before .before .before .before .before .before .before .before .args in by-kind m (event (x .kind) (x .who) (x .a) (x .b) (x .k)) set-ordinary _ (ap kindOf (c .before .match .keys9)) (c .set-ordinary .ensures m (x .kind) (x .a) (x .k) (l .cpus))
+returns-9 c =
+    λ m l.
+    let k = at.returns-9 c in
+    let x = k .args in
+    by-kind m (asked (k .start)) set-ordinary _ (ap kindOf (k .match .keys9))
+    (k .set-ordinary .ensures m (x .kind) (x .a) (x .k) (l .cpus))
 
 returns-10 : tie.Need-returns-10
-returns-10 c = λ m l. let x = c .before .before .before .before .before .before .before .before .before .args in let r = c .match .rest in unknown m (event (x .kind) (x .who) (x .a) (x .b) (x .k)) (unnamed (x .kind) (r .0 .0 .0 .0 .0 .0 .0 .0 .1) (r .0 .0 .0 .0 .0 .0 .0 .1) (r .0 .0 .0 .0 .0 .0 .1) (r .0 .0 .0 .0 .0 .1) (r .0 .0 .0 .0 .1) (r .0 .0 .0 .1) (r .0 .0 .1) (r .0 .1) (r .1))
+returns-10 c =
+    λ m l.
+    let k = at.returns-10 c in
+    let r = k .match .rest in
+    unknown m (asked (k .start))
+    (unnamed (k .args .kind) (r .0 .0 .0 .0 .0 .0 .0 .0 .1) (r .0 .0 .0 .0 .0 .0 .0 .1) (r .0 .0 .0 .0 .0 .0 .1) (r .0 .0 .0 .0 .0 .1)
+    (r .0 .0 .0 .0 .1) (r .0 .0 .0 .1) (r .0 .0 .1) (r .0 .1) (r .1))
 
 pub decide-spec : {M : Type 1} → statement M
 decide-spec =
-    tie.close
-    (tie.spec
+    at.close
     task-at-requires
-    task-at-requires-2
     add-requires
     remove-requires
     wake-requires
@@ -94,4 +153,4 @@ decide-spec =
     returns-7
     returns-8
     returns-9
-    returns-10)
+    returns-10

@@ -1,7 +1,8 @@
--- `deciding::kinds::add` meets its contract. Assumes nothing.
+-- `deciding::kinds::add` meets its contract.
+-- Assumes nothing.
 use borrow.Author.Needs.{needs}
-use mathlib.Core.Path.{_≡_, sym, ap, _∙_}
-use mathlib.Core.Bool.{Bool, not}
+use mathlib.Core.Path.{_≡_, ap, _∙_}
+use mathlib.Core.Bool.{not}
 use mathlib.Core.Logic.{_⊎_, inl, inr}
 use Prim.Native.Nat.{ℕ, _≤_}
 use native.Mathlib.Nat.{suc-ne-zero}
@@ -9,15 +10,16 @@ use native.Mathlib.Omega.{arith}
 use borrow.Author.Tests.{le-leb, lt-leb, not-false}
 use Rattle.bits.specs.Bit.{lowest}
 use Rattle.bits.proofs.Search.{first-le}
-use Rattle.cpupri.specs.Found.{maskFits}
-use Rattle.rules.specs.Machine.{free, asleep, taskPlaces, fullSlice, fifo, rr, lowestPriority, highestPriority}
+use Rattle.rules.specs.Machine.{free, asleep, taskPlaces, cpuPlaces, fullSlice, fifo, rr, lowestPriority, highestPriority}
 use Rattle.rules.specs.Events.{event, added}
+use Rattle.rules.specs.Plan.{rewrite}
 use Rattle.rules.proofs.Checks.{between, one-of, mask-good}
-use Rattle.deciding.specs.Plan.{rewrite}
-use Rattle.deciding.proofs.Answers.{fails-here, passes-here, none-left}
+use Rattle.deciding.proofs.Answers.{fails-here, passes-here, none-left, tested, tested-mask}
 use Rattle.deciding.proofs.Plans.{replaced, is-in, not-in, state-other, rewritten, lowest-allowed}
 use Rattle.deciding.proofs.kinds.add.Statement.{statement}
 use Rattle.deciding.proofs.kinds.add.Tie as tie
+use Rattle.deciding.proofs.kinds.add.Proof.Paths as at
+mod Paths
 
 either : {a : ℕ} → (a ≡ fifo) ⊎ (a ≡ rr) → a ≤ rr
 either (inl e) = omega arith
@@ -36,29 +38,59 @@ lowest-bit-requires : tie.Need-lowest-bit-requires
 lowest-bit-requires c κs = search needs
 
 returns : tie.Need-returns
-returns c = λ m kind n l. (fails-here _ _ _ (le-leb taskPlaces (c .before .before .before .before .before .args .who) (c .if1 .taken)), suc-ne-zero 3)
+returns c = λ m kind n l. let k = at.returns c in (fails-here _ _ _ (le-leb taskPlaces (k .args .who) (k .if1 .taken)), suc-ne-zero 3)
 
 returns-2 : tie.Need-returns-2
-returns-2 c = λ m kind n l. (passes-here _ _ _ 5 (lt-leb taskPlaces (c .before .before .before .before .before .before .before .args .who) (c .before .before .if1 .left)) (fails-here _ _ _ (ap not (not-in l free (c .if2 .taken)))), suc-ne-zero 4)
+returns-2 c =
+    λ m kind n l.
+    let k = at.returns-2 c in
+    (passes-here _ _ _ 5 (lt-leb taskPlaces (k .args .who) (k .if1 .left)) (fails-here _ _ _ (ap not (not-in l free (k .if2 .taken)))), suc-ne-zero 4)
 
 returns-3 : tie.Need-returns-3
-returns-3 c = λ m kind n l. (passes-here _ _ _ 6 (lt-leb taskPlaces (c .before .before .before .before .before .before .before .before .args .who) (c .before .before .before .if1 .left)) (passes-here _ _ _ 6 (ap not (is-in l free (c .before .if2 .left))) (fails-here _ _ _ (sym (ap not (c .before .before .before .before .before .before .before .is-policy .ensures)) ∙ c .if3 .taken))), suc-ne-zero 5)
+returns-3 c =
+    λ m kind n l.
+    let k = at.returns-3 c in (
+      passes-here _ _ _ 6 (lt-leb taskPlaces (k .args .who) (k .if1 .left))
+          (passes-here _ _ _ 6 (ap not (is-in l free (k .if2 .left))) (fails-here _ _ _ (tested (k .is-policy .ensures) (k .if3 .taken)))),
+      suc-ne-zero 5,
+    )
 
 returns-4 : tie.Need-returns-4
-returns-4 c = λ m kind n l. (passes-here _ _ _ 7 (lt-leb taskPlaces (c .before .before .before .before .before .before .before .before .before .args .who) (c .before .before .before .before .if1 .left)) (passes-here _ _ _ 7 (ap not (is-in l free (c .before .before .if2 .left))) (passes-here _ _ _ 7 (sym (ap not (c .before .before .before .before .before .before .before .before .is-policy .ensures)) ∙ c .before .if3 .left) (fails-here _ _ _ (sym (ap not (c .before .before .before .before .before .before .before .is-priority .ensures)) ∙ c .if4 .taken)))), suc-ne-zero 6)
+returns-4 c =
+    λ m kind n l.
+    let k = at.returns-4 c in (
+      passes-here _ _ _ 7 (lt-leb taskPlaces (k .args .who) (k .if1 .left))
+          (passes-here _ _ _ 7 (ap not (is-in l free (k .if2 .left)))
+          (passes-here _ _ _ 7 (tested (k .is-policy .ensures) (k .if3 .left)) (fails-here _ _ _ (tested (k .is-priority .ensures) (k .if4 .taken))))),
+      suc-ne-zero 6,
+    )
 
 returns-5 : tie.Need-returns-5
-returns-5 c = λ m kind n l. (passes-here _ _ _ 8 (lt-leb taskPlaces (c .before .before .before .before .before .before .before .before .before .before .args .who) (c .before .before .before .before .before .if1 .left)) (passes-here _ _ _ 8 (ap not (is-in l free (c .before .before .before .if2 .left))) (passes-here _ _ _ 8 (sym (ap not (c .before .before .before .before .before .before .before .before .before .is-policy .ensures)) ∙ c .before .before .if3 .left) (passes-here _ _ _ 8 (sym (ap not (c .before .before .before .before .before .before .before .before .is-priority .ensures)) ∙ c .before .if4 .left) (fails-here _ _ _ (ap (λ (j : ℕ). not (maskFits j (c .before .before .before .before .before .before .before .before .before .before .args .k))) (sym n) ∙ sym (ap not (c .before .before .before .before .before .before .before .mask-fits .ensures)) ∙ c .if5 .taken))))), suc-ne-zero 7)
+returns-5 c =
+    λ m kind n l.
+    let k = at.returns-5 c in (
+      passes-here _ _ _ 8 (lt-leb taskPlaces (k .args .who) (k .if1 .left))
+          (passes-here _ _ _ 8 (ap not (is-in l free (k .if2 .left)))
+          (passes-here _ _ _ 8 (tested (k .is-policy .ensures) (k .if3 .left))
+          (passes-here _ _ _ 8 (tested (k .is-priority .ensures) (k .if4 .left))
+          (fails-here _ _ _ (tested-mask (k .args .k) n (k .mask-fits .ensures) (k .if5 .taken)))))),
+      suc-ne-zero 7,
+    )
 
-cast-t14 : tie.Need-cast-t14
-cast-t14 c = omega (arith, either (one-of (c .before .before .before .before .before .before .before .before .before .before .args .a) fifo rr (sym (ap not (c .before .before .before .before .before .before .before .before .before .is-policy .ensures)) ∙ c .before .before .if3 .left)))
+cast : at.Need-cast
+cast c = let k = at.cast c in omega (arith, either (one-of (k .args .a) fifo rr (tested (k .is-policy .ensures) (k .if3 .left))))
 
-cast-t15 : tie.Need-cast-t15
-cast-t15 c = omega (arith, between lowestPriority (c .before .before .before .before .before .before .before .before .before .before .args .b) highestPriority (sym (ap not (c .before .before .before .before .before .before .before .before .is-priority .ensures)) ∙ c .before .if4 .left) .1)
+cast-2 : at.Need-cast-2
+cast-2 c =
+    let k = at.cast-2 c in
+    omega (arith, between lowestPriority (k .args .b) highestPriority (tested (k .is-priority .ensures) (k .if4 .left)) .1)
 
-cast-t16 : tie.Need-cast-t16
+cast-3 : at.Need-cast-3
 unfolding lowest
-cast-t16 c = let l : lowest 64 (c .before .before .before .before .before .before .before .before .before .before .args .k) ≤ 64 = first-le _ 64 in omega (arith, c .before .before .before .before .before .before .lowest-bit .ensures)
+cast-3 c =
+    let k = at.cast-3 c in
+    let l : lowest cpuPlaces (k .args .k) ≤ cpuPlaces = first-le _ cpuPlaces in
+    omega (arith, k .lowest-bit .ensures)
 
 cast-rewrite : tie.Need-cast-rewrite
 cast-rewrite c = search needs
@@ -69,18 +101,24 @@ rewrite-requires c κs = search needs
 returns-6 : tie.Need-returns-6
 returns-6 c =
     λ m kind n l.
-    let fits = ap (λ (j : ℕ). not (maskFits j (c .before .before .before .before .before .before .before .before .before .before .before .args .k))) (sym n) ∙ sym (ap not (c .before .before .before .before .before .before .before .before .mask-fits .ensures)) ∙ c .before .if5 .left in
-    let k = mask-good (c .before .before .before .before .before .before .before .before .before .before .before .args .k) (m .n) (not-false _ fits) in (
-      passes-here _ _ _ 0 (lt-leb taskPlaces (c .before .before .before .before .before .before .before .before .before .before .before .args .who) (c .before .before .before .before .before .before .if1 .left)) (passes-here _ _ _ 0 (ap not (is-in l free (c .before .before .before .before .if2 .left))) (passes-here _ _ _ 0 (sym (ap not (c .before .before .before .before .before .before .before .before .before .before .is-policy .ensures)) ∙ c .before .before .before .if3 .left) (passes-here _ _ _ 0 (sym (ap not (c .before .before .before .before .before .before .before .before .before .is-priority .ensures)) ∙ c .before .before .if4 .left) (passes-here _ _ _ 0 fits none-left)))),
+    let k = at.returns-6 c in
+    let x = k .args in
+    let fits = tested-mask (x .k) n (k .mask-fits .ensures) (k .if5 .left) in
+    let good = mask-good (x .k) (m .n) (not-false _ fits) in
+    let cpu = k .lowest-bit .ensures ∙ lowest-allowed m (x .k) (l .formed .shape .cpus) (good .0) (good .1) in (
+      passes-here _ _ _ 0 (lt-leb taskPlaces (x .who) (k .if1 .left))
+          (passes-here _ _ _ 0 (ap not (is-in l free (k .if2 .left)))
+          (passes-here _ _ _ 0 (tested (k .is-policy .ensures) (k .if3 .left))
+          (passes-here _ _ _ 0 (tested (k .is-priority .ensures) (k .if4 .left)) (passes-here _ _ _ 0 fits none-left)))),
       replaced
-          (c .rewrite .ensures ∙ ap (λ (d : ℕ). rewrite (c .before .before .before .before .before .before .before .before .before .before .before .args .who) (record { state = asleep; policy = c .before .before .before .before .before .before .before .before .before .before .before .args .a; prio = c .before .before .before .before .before .before .before .before .before .before .before .args .b; cpu = d; slice = fullSlice; mask = c .before .before .before .before .before .before .before .before .before .before .before .args .k })) (c .before .before .before .before .before .before .before .lowest-bit .ensures ∙ lowest-allowed m (c .before .before .before .before .before .before .before .before .before .before .before .args .k) (l .formed .shape .cpus) (k .0) (k .1)))
-          (rewritten l (c .before .before .before .before .before .before .if1 .left) (added m (event kind (c .before .before .before .before .before .before .before .before .before .before .before .args .who) (c .before .before .before .before .before .before .before .before .before .before .before .args .a) (c .before .before .before .before .before .before .before .before .before .before .before .args .b) (c .before .before .before .before .before .before .before .before .before .before .before .args .k))) (state-other l (λ z. omega (arith, c .before .before .before .before .if2 .left)))),
+          (k .rewrite .ensures
+          ∙ ap (λ (d : ℕ). rewrite (x .who) (record { state = asleep; policy = x .a; prio = x .b; cpu = d; slice = fullSlice; mask = x .k })) cpu)
+          (rewritten l (k .if1 .left) (added m (event kind (x .who) (x .a) (x .b) (x .k))) (state-other l (λ z. omega arith))),
     )
 
 pub add-spec : {M : Type 1} → statement M
 add-spec =
-    tie.close
-    (tie.spec
+    at.close
     is-policy-requires
     is-priority-requires
     mask-fits-requires
@@ -90,9 +128,9 @@ add-spec =
     returns-3
     returns-4
     returns-5
-    cast-t14
-    cast-t15
-    cast-t16
+    cast
+    cast-2
+    cast-3
     cast-rewrite
     rewrite-requires
-    returns-6)
+    returns-6

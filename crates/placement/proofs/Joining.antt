@@ -1,0 +1,75 @@
+-- A task leaves or enters a row of the lent tables: what that needs, and what the tables then hold.
+-- Assumes nothing.
+use mathlib.Core.Path.{_≡_, sym, ap, _∙_, subst}
+use mathlib.Core.List.{List}
+use Prim.Native.Nat.{ℕ, _<_}
+use native.Mathlib.Omega.{arith}
+use lib.ListN.{length, getD}
+use Rattle.cpupri.specs.Record.{recordOf}
+use Rattle.levels.specs.declared.record.Record.{Record}
+use Rattle.rules.specs.Lists.{In, Falling, delete}
+use Rattle.rules.specs.Machine.{Machine, prioOf, row, levels, withRow, queued, dequeue, taskPlaces}
+use Rattle.rules.specs.Tables.{flatOf, rowCounts}
+use Rattle.runqueue.specs.Table.{HoldsRows, Joinable, rowAt, rowsWith}
+use Rattle.placement.specs.Held.{Held, Entering}
+use Rattle.placement.proofs.Order.{holds, read-row, cpus-counted, fine-delete, fine-queued, held-row, above}
+
+-- ---- leaving
+
+module _ (m : Machine) (t : ℕ) {ps ks flat : List ℕ} {r : Record} {c : ℕ} (h : Held m ps ks flat r) (hc : c < m .n) (stands : In t (row m c)) where
+  row-read : rowAt ks flat c ≡ row m c
+  row-read = read-row m ps ks flat r h c
+
+  -- what `runqueue::table::dequeue` asks
+  pub can-leave : HoldsRows ks flat × ((c < length ks) × In t (rowAt ks flat c))
+  can-leave = (holds m ps ks flat r h, (omega (arith, cpus-counted m ps ks flat r h), subst (In t) (sym row-read) stands))
+
+  pub has-left : {ks′ flat′ : List ℕ} → flat′ ≡ flatOf (rowsWith ks flat c (delete t (rowAt ks flat c)))
+      → ks′ ≡ rowCounts (rowsWith ks flat c (delete t (rowAt ks flat c))) → Held (dequeue t c m) ps ks′ flat′ (recordOf (levels (dequeue t c m)))
+  has-left {ks′} {flat′} ef ek =
+      held-row m ps ks flat r c (delete t (row m c)) h hc (fine-delete m t c (h .order) stands) ks′ flat′
+      (ek ∙ ap (λ (q : List ℕ). rowCounts (rowsWith ks flat c (delete t q))) row-read)
+      (ef ∙ ap (λ (q : List ℕ). flatOf (rowsWith ks flat c (delete t q))) row-read)
+
+-- ---- entering
+
+module _ (m : Machine) {ps ks flat : List ℕ} {r : Record} {t c : ℕ} (l : Entering m ps ks flat r t c) where
+  row-is : rowAt ks flat c ≡ row m c
+  row-is = read-row m ps ks flat r (l .held) c
+
+  joinable : Falling (λ (u : ℕ). getD ps u 0) (rowAt ks flat c)
+  joinable =
+      subst (λ (q : List ℕ). Falling (λ (u : ℕ). getD ps u 0) q) (sym row-is)
+      (subst (λ (qs : List ℕ). Falling (λ (u : ℕ). getD qs u 0) (row m c)) (sym (l .held .prio)) (l .held .order .falling c))
+
+  -- what `runqueue::table::enqueue` asks
+  pub can-enter : HoldsRows ks flat × ((c < length ks) × ((t < taskPlaces) × ((length ps ≡ taskPlaces) × Joinable ps (rowAt ks flat c))))
+  can-enter = (
+    holds m ps ks flat r (l .held),
+    (
+      omega (arith, cpus-counted m ps ks flat r (l .held), l .cpu),
+      (
+        l .task,
+        (
+          ap length (l .held .prio) ∙ l .held .order .prios,
+          record {
+            room = subst (λ (q : List ℕ). length q < taskPlaces) (sym row-is) (l .room);
+            tasks = λ u i. above m ps ks flat r (l .held) c u i .0;
+            falling = joinable;
+          },
+        ),
+      ),
+    ),
+  )
+
+  same-queue : queued (λ (u : ℕ). getD ps u 0) t (rowAt ks flat c) ≡ queued (prioOf m) t (row m c)
+  same-queue = ap (λ (qs : List ℕ). queued (λ (u : ℕ). getD qs u 0) t (rowAt ks flat c)) (l .held .prio) ∙ ap (queued (prioOf m) t) row-is
+
+  -- the machine with the task in the row; its CPU column is apart
+  pub has-entered : {ks′ flat′ : List ℕ} → flat′ ≡ flatOf (rowsWith ks flat c (queued (λ (u : ℕ). getD ps u 0) t (rowAt ks flat c)))
+      → ks′ ≡ rowCounts (rowsWith ks flat c (queued (λ (u : ℕ). getD ps u 0) t (rowAt ks flat c)))
+      → let entered = withRow c (queued (prioOf m) t (row m c)) m in Held entered ps ks′ flat′ (recordOf (levels entered))
+  has-entered {ks′} {flat′} ef ek =
+      held-row m ps ks flat r c (queued (prioOf m) t (row m c)) (l .held) (l .cpu) (fine-queued m t c (l .held .order) (l .task) (l .high) (l .room)) ks′ flat′
+      (ek ∙ ap (λ (q : List ℕ). rowCounts (rowsWith ks flat c q)) same-queue)
+      (ef ∙ ap (λ (q : List ℕ). flatOf (rowsWith ks flat c q)) same-queue)
