@@ -7,7 +7,7 @@ use lib.ListN.{set}
 use Rattle.cpupri.specs.Record.{recordOf}
 use Rattle.levels.specs.declared.record.Record.{Record}
 use Rattle.rules.specs.Machine.{Machine, levels, withFlag}
-use Rattle.deciding.specs.Plan.{carried}
+use Rattle.rules.specs.Plan.{carried}
 use Rattle.deciding.specs.Decided.{asPlan, did}
 use Rattle.deciding.specs.declared.plan.Plan.{Plan as Written}
 use Rattle.deciding.specs.declared.plan.Decision.{Decision}
@@ -18,10 +18,19 @@ module _ {m : Machine} {ss ps qs cs ls ks flat ns fs : List ℕ} {r : Record} {d
   pub placeable : {p : Written} → d ≡ Place p → Placeable m ss ps qs cs ls ks flat ns fs r (asPlan p)
   placeable e = record { formed = l .formed; holds = l .holds; ready = subst (Ready m) e (l .ready) }
 
-  pub flagging : {c b : ℕ} → d ≡ Flag c b → Flagging m fs ns r c b
+  pub flagging : {c b : ℕ} → d ≡ Flag c b → Flagging m qs flat ns fs r c b
   flagging {c} {b} e =
       let h : (c < m .n) × (b ≤ 1) = subst (Ready m) e (l .ready) in
-      record { formed = l .formed; flags = l .holds .flags; counts = l .holds .counts; levels = l .holds .levels; cpu = h .0; work = h .1 }
+      record {
+        formed = l .formed;
+        prio = l .holds .prio;
+        rows = l .holds .rows;
+        counts = l .holds .counts;
+        flags = l .holds .flags;
+        levels = l .holds .levels;
+        cpu = h .0;
+        work = h .1;
+      }
 
   pub flag-set : {c b : ℕ} {fs′ : List ℕ} {r′ : Record} → d ≡ Flag c b → fs′ ≡ set fs c b → r′ ≡ recordOf (levels (withFlag c b m)) → Holds (did d m) ss ps qs cs ls ks flat ns fs′ r′
   flag-set {c} {b} {fs′} {r′} e ef er =

@@ -1,5 +1,5 @@
 -- The laws of carrying out.
-pub mod Steady
 pub mod Placing
+pub mod Optional
 pub mod Flags
 pub mod Carrying

@@ -8,12 +8,13 @@ use Prim.Native.Nat.{ℕ, _≤_, _<_}
 use lib.ListN.{length}
 use Rattle.cpupri.specs.Record.{recordOf}
 use Rattle.levels.specs.declared.record.Record.{Record}
+use Rattle.rules.specs.Lists.{In}
 use Rattle.rules.specs.Machine.{Machine, prioOf, row, levels, taskPlaces, highestPriority}
+use Rattle.rules.specs.Plan.{Plan, When, Doable}
 use Rattle.rules.specs.Tables.{flatOf, rowCounts}
 use Rattle.rules.specs.WellFormed.{WellFormed}
-use Rattle.placement.specs.Held.{Held, Leaving}
-use Rattle.deciding.specs.Plan.{Plan}
-use Rattle.deciding.specs.Decided.{asPlan, When, Doable}
+use Rattle.placement.specs.Held.{Queues, Following}
+use Rattle.deciding.specs.Decided.{asPlan}
 use Rattle.deciding.specs.declared.plan.Decision.{Decision}
 use Rattle.deciding.specs.declared.plan.Decision.the-variants.{Refused, Nothing, Place, Flag}
 
@@ -56,21 +57,27 @@ pub record Placeable (m : Machine) (ss ps qs cs ls ks flat ns fs : List ℕ) (r 
   pub holds : Holds m ss ps qs cs ls ks flat ns fs r
   pub ready : Doable m p
 
-pub record Flagging (m : Machine) (fs ns : List ℕ) (r : Record) (c b : ℕ) : Type 0 where
+pub record Flagging (m : Machine) (qs flat ns fs : List ℕ) (r : Record) (c b : ℕ) : Type 0 where
   pub formed : WellFormed m
-  pub flags : fs ≡ m .flags
+  pub prio : qs ≡ m .prio
+  pub rows : flat ≡ flatOf (m .rows)
   pub counts : ns ≡ rowCounts (m .rows)
+  pub flags : fs ≡ m .flags
   pub levels : r ≡ recordOf (levels m)
   pub cpu : c < m .n
   pub work : b ≤ 1
 
--- ---- leaving and entering, if it is to
+-- ---- leaving, entering and following, if it is to
 
-pub record LeavingIf (b : Bool) (m : Machine) (qs fs ns flat : List ℕ) (r : Record) (t c : ℕ) : Type 0 where
-  pub held : Held m qs ns flat r
-  pub may : When b (Leaving m qs fs ns flat r t c)
+pub record LeavingIf (b : Bool) (m : Machine) (ns flat : List ℕ) (t c : ℕ) : Type 0 where
+  pub queues : Queues m ns flat
+  pub may : When b ((c < m .n) × In t (row m c))
 
-pub record EnteringIf (b : Bool) (m : Machine) (qs ns flat : List ℕ) (r : Record) (t c : ℕ) : Type 0 where
-  pub held : Held m qs ns flat r
+pub record EnteringIf (b : Bool) (m : Machine) (qs ns flat : List ℕ) (t c : ℕ) : Type 0 where
+  pub queues : Queues m ns flat
+  pub prio : qs ≡ m .prio
   pub task : t < taskPlaces
   pub may : When b ((c < m .n) × (prioOf m t ≤ highestPriority) × (length (row m c) < taskPlaces))
+
+pub record FollowingIf (b : Bool) (m : Machine) (qs fs ns flat : List ℕ) (c : ℕ) : Type 0 where
+  pub may : When b (Following m qs fs ns flat c)

@@ -1,16 +1,17 @@
-// A decision is carried out: a task leaves its row or not, its columns are written, and it enters a row or not. Whatever the kind of event.
+// A decision is carried out, whatever the kind of event: a task leaves its row or not, its columns are written, it enters a row or
+// not, and the levels of those rows' CPUs follow.
 ghost use mathlib.Core.Path.{_≡_};
 ghost use mathlib.Core.Bool.{cond};
 ghost use Prim.Native.Nat.{_<_};
 ghost use lib.ListN.{length, set};
-ghost use Rattle.cpupri.specs.Record.{recordOf, lentRecord};
+ghost use Rattle.bits.specs.Moments.{old, new};
+ghost use Rattle.cpupri.specs.Record.{recordOf, Whole};
+ghost use Rattle.levels.specs.Lent.{nowRecord, oldRecord, newRecord};
 ghost use Rattle.rules.specs.Machine.{Machine, taskPlaces, levels as levelsOf, withFlag, enqueue, dequeue};
-ghost use Rattle.placement.specs.Held.{Held};
-ghost use Rattle.deciding.specs.Plan.{carried};
+ghost use Rattle.rules.specs.Plan.{carried};
+ghost use Rattle.placement.specs.Held.{Queues, followed};
 ghost use Rattle.deciding.specs.Decided.{asPlan, did};
-ghost use Rattle.carrying.specs.Holds.{Sized, Holds, Ready, Carriable, Placeable, LeavingIf, EnteringIf, Flagging};
-use cpupri::lent::set_level;
-use cpupri::level::Level;
+ghost use Rattle.carrying.specs.Holds.{Sized, Holds, Carriable, Placeable, LeavingIf, EnteringIf, FollowingIf, Flagging};
 use cpupri::record::CPUS;
 use cpupri::record::LEVELS;
 use cpupri::record::WORDS;
@@ -34,8 +35,15 @@ pub fn carry_out(
     levels: &mut [u8; CPUS],
     decision: Decision,
 )
-    requires { ⌜ ((m : Machine) × Carriable m (now state) (now policy) (now prio) (now cpu) (now slice) (now mask) (now rows) (now counts) (now flags) (lentRecord (now masks) (now tallies) (now words) (now levels)) decision) ⌝ }
-    ensures { λ u. ⌜ ((m : Machine) → Carriable m (now (state .entry)) (now (policy .entry)) (now (prio .entry)) (now (cpu .entry)) (now (slice .entry)) (now (mask .entry)) (now (rows .entry)) (now (counts .entry)) (now (flags .entry)) (lentRecord (now (masks .entry)) (now (tallies .entry)) (now (words .entry)) (now (levels .entry))) decision → Holds (did decision m) (now (state .exit)) (now (policy .exit)) (now (prio .exit)) (now (cpu .exit)) (now (slice .exit)) (now (mask .exit)) (now (rows .exit)) (now (counts .exit)) (now (flags .exit)) (lentRecord (now (masks .exit)) (now (tallies .exit)) (now (words .exit)) (now (levels .exit)))) ⌝ }
+    requires { let r = nowRecord masks tallies words levels in
+        ⌜ ((m : Machine) × Carriable m (now state) (now policy) (now prio) (now cpu) (now slice) (now mask)
+        (now rows) (now counts) (now flags) r decision) ⌝ }
+    ensures { λ u. let r = oldRecord masks tallies words levels in
+        let q = newRecord masks tallies words levels in
+        ⌜ ((m : Machine)
+        → Carriable m (old state) (old policy) (old prio) (old cpu) (old slice) (old mask) (old rows) (old counts) (old flags) r decision
+        → Holds (did decision m) (new state) (new policy) (new prio) (new cpu) (new slice) (new mask)
+        (new rows) (new counts) (new flags) q) ⌝ }
 {
     match decision {
         Decision::Place(plan) => place(
@@ -55,8 +63,10 @@ pub fn carry_out(
             plan,
         ),
         Decision::Flag { cpu: at, work } => set_flag(
-            flags,
+            prio,
+            rows,
             counts,
+            flags,
             masks,
             tallies,
             words,
@@ -85,23 +95,19 @@ fn place(
     levels: &mut [u8; CPUS],
     plan: Plan,
 )
-    requires { ⌜ ((m : Machine) × Placeable m (now state) (now policy) (now prio) (now cpu) (now slice) (now mask) (now rows) (now counts) (now flags) (lentRecord (now masks) (now tallies) (now words) (now levels)) (asPlan plan)) ⌝ }
-    ensures { λ u. ⌜ ((m : Machine) → Placeable m (now (state .entry)) (now (policy .entry)) (now (prio .entry)) (now (cpu .entry)) (now (slice .entry)) (now (mask .entry)) (now (rows .entry)) (now (counts .entry)) (now (flags .entry)) (lentRecord (now (masks .entry)) (now (tallies .entry)) (now (words .entry)) (now (levels .entry))) (asPlan plan) → Holds (carried (asPlan plan) m) (now (state .exit)) (now (policy .exit)) (now (prio .exit)) (now (cpu .exit)) (now (slice .exit)) (now (mask .exit)) (now (rows .exit)) (now (counts .exit)) (now (flags .entry)) (lentRecord (now (masks .exit)) (now (tallies .exit)) (now (words .exit)) (now (levels .exit)))) ⌝ }
+    requires { let r = nowRecord masks tallies words levels in
+        ⌜ ((m : Machine) × Placeable m (now state) (now policy) (now prio) (now cpu) (now slice) (now mask)
+        (now rows) (now counts) (now flags) r (asPlan plan)) ⌝ }
+    ensures { λ u. let r = oldRecord masks tallies words levels in
+        let q = newRecord masks tallies words levels in
+        let p = asPlan plan in
+        ⌜ ((m : Machine)
+        → Placeable m (old state) (old policy) (old prio) (old cpu) (old slice) (old mask) (old rows) (old counts) (old flags) r p
+        → Holds (carried p m) (new state) (new policy) (new prio) (new cpu) (new slice) (new mask)
+        (new rows) (new counts) (old flags) q) ⌝ }
 {
     let becomes = plan.becomes;
-    leave_if(
-        plan.leaves,
-        rows,
-        counts,
-        prio,
-        flags,
-        masks,
-        tallies,
-        words,
-        levels,
-        plan.origin,
-        plan.task,
-    );
+    leave_if(plan.leaves, rows, counts, plan.origin, plan.task);
     write(
         state,
         policy,
@@ -118,20 +124,75 @@ fn place(
         counts,
         prio,
         cpu,
+        plan.target,
+        plan.task,
+    );
+    follow_if(
+        plan.leaves,
+        rows,
+        counts,
+        prio,
+        flags,
+        masks,
+        tallies,
+        words,
+        levels,
+        plan.origin,
+    );
+    follow_if(
+        plan.enters,
+        rows,
+        counts,
+        prio,
+        flags,
         masks,
         tallies,
         words,
         levels,
         plan.target,
-        plan.task,
     );
 }
 
 // The task leaves the row, if it is to.
-fn leave_if(
-    leaves: bool,
+fn leave_if(leaves: bool, rows: &mut [u16], counts: &mut [u16], cpu: usize, task: u16)
+    requires { ⌜ ((m : Machine) × LeavingIf leaves m (now counts) (now rows) task cpu) ⌝ }
+    ensures { λ u. ⌜ ((m : Machine) → LeavingIf leaves m (old counts) (old rows) task cpu
+        → Queues (cond leaves (dequeue task cpu m) m) (new counts) (new rows)) ⌝ }
+{
+    if !leaves {
+        return;
+    }
+    runqueue::table::dequeue(rows, counts, cpu, task);
+}
+
+// The task enters the row, if it is to, and the row's CPU is then its CPU.
+fn enter_if(
+    enters: bool,
     rows: &mut [u16],
     counts: &mut [u16],
+    prio: &[u8],
+    cpus: &mut [u8],
+    cpu: usize,
+    task: u16,
+)
+    requires { ⌜ ((m : Machine) × EnteringIf enters m (now prio) (now counts) (now rows) task cpu) ⌝ }
+    requires { ⌜ length (now cpus) ≡ taskPlaces ⌝ }
+    ensures { λ u. ⌜ ((m : Machine) → EnteringIf enters m (old prio) (old counts) (old rows) task cpu
+        → Queues (cond enters (enqueue task cpu m) m) (new counts) (new rows)) ⌝
+        ∗ ⌜ new cpus ≡ cond enters (set (old cpus) task cpu) (old cpus) ⌝ }
+{
+    if !enters {
+        return;
+    }
+    runqueue::table::enqueue(rows, counts, prio, cpu, task);
+    cpus[task as usize] = cpu as u8;
+}
+
+// The CPU's level follows its row, if it is to.
+fn follow_if(
+    follows: bool,
+    rows: &[u16],
+    counts: &[u16],
     prio: &[u8],
     flags: &[u8],
     masks: &mut [u64; LEVELS],
@@ -139,15 +200,17 @@ fn leave_if(
     words: &mut [u64; WORDS],
     levels: &mut [u8; CPUS],
     cpu: usize,
-    task: u16,
 )
-    requires { ⌜ ((m : Machine) × LeavingIf leaves m (now prio) (now flags) (now counts) (now rows) (lentRecord (now masks) (now tallies) (now words) (now levels)) task cpu) ⌝ }
-    ensures { λ u. ⌜ ((m : Machine) → LeavingIf leaves m (now (prio .entry)) (now (flags .entry)) (now (counts .entry)) (now (rows .entry)) (lentRecord (now (masks .entry)) (now (tallies .entry)) (now (words .entry)) (now (levels .entry))) task cpu → Held (cond leaves (dequeue task cpu m) m) (now (prio .entry)) (now (counts .exit)) (now (rows .exit)) (lentRecord (now (masks .exit)) (now (tallies .exit)) (now (words .exit)) (now (levels .exit)))) ⌝ }
+    requires { ⌜ ((m : Machine) × FollowingIf follows m (now prio) (now flags) (now counts) (now rows) cpu) ⌝ }
+    requires { ⌜ Whole (nowRecord masks tallies words levels) ⌝ }
+    ensures { λ u. let q = newRecord masks tallies words levels in
+        ⌜ ((m : Machine) → FollowingIf follows m (old prio) (old flags) (old counts) (old rows) cpu
+        → q ≡ recordOf (followed follows cpu m (old levels))) ⌝ }
 {
-    if !leaves {
+    if !follows {
         return;
     }
-    placement::leave(
+    placement::follow(
         rows,
         counts,
         prio,
@@ -157,43 +220,6 @@ fn leave_if(
         words,
         levels,
         cpu,
-        task,
-    );
-}
-
-// The task enters the row, if it is to.
-fn enter_if(
-    enters: bool,
-    rows: &mut [u16],
-    counts: &mut [u16],
-    prio: &[u8],
-    cpus: &mut [u8],
-    masks: &mut [u64; LEVELS],
-    tallies: &mut [u8; LEVELS],
-    words: &mut [u64; WORDS],
-    levels: &mut [u8; CPUS],
-    cpu: usize,
-    task: u16,
-)
-    requires { ⌜ ((m : Machine) × EnteringIf enters m (now prio) (now counts) (now rows) (lentRecord (now masks) (now tallies) (now words) (now levels)) task cpu) ⌝ }
-    requires { ⌜ length (now cpus) ≡ taskPlaces ⌝ }
-    ensures { λ u. ⌜ ((m : Machine) → EnteringIf enters m (now (prio .entry)) (now (counts .entry)) (now (rows .entry)) (lentRecord (now (masks .entry)) (now (tallies .entry)) (now (words .entry)) (now (levels .entry))) task cpu → Held (cond enters (enqueue task cpu m) m) (now (prio .entry)) (now (counts .exit)) (now (rows .exit)) (lentRecord (now (masks .exit)) (now (tallies .exit)) (now (words .exit)) (now (levels .exit)))) ⌝ }
-    ensures { λ u. ⌜ now (cpus .exit) ≡ cond enters (set (now (cpus .entry)) task cpu) (now (cpus .entry)) ⌝ }
-{
-    if !enters {
-        return;
-    }
-    placement::enter(
-        rows,
-        counts,
-        prio,
-        cpus,
-        masks,
-        tallies,
-        words,
-        levels,
-        cpu,
-        task,
     );
 }
 
@@ -210,12 +236,12 @@ fn write(
 )
     requires { ⌜ at < taskPlaces ⌝ }
     requires { ⌜ Sized (now state) (now policy) (now prio) (now cpu) (now slice) (now mask) ⌝ }
-    ensures { λ u. ⌜ now (state .exit) ≡ set (now (state .entry)) at (task .state) ⌝ }
-    ensures { λ u. ⌜ now (policy .exit) ≡ set (now (policy .entry)) at (task .policy) ⌝ }
-    ensures { λ u. ⌜ now (prio .exit) ≡ set (now (prio .entry)) at (task .prio) ⌝ }
-    ensures { λ u. ⌜ now (cpu .exit) ≡ set (now (cpu .entry)) at (task .cpu) ⌝ }
-    ensures { λ u. ⌜ now (slice .exit) ≡ set (now (slice .entry)) at (task .slice) ⌝ }
-    ensures { λ u. ⌜ now (mask .exit) ≡ set (now (mask .entry)) at (task .mask) ⌝ }
+    ensures { λ u. ⌜ new state ≡ set (old state) at (task .state) ⌝ }
+    ensures { λ u. ⌜ new policy ≡ set (old policy) at (task .policy) ⌝ }
+    ensures { λ u. ⌜ new prio ≡ set (old prio) at (task .prio) ⌝ }
+    ensures { λ u. ⌜ new cpu ≡ set (old cpu) at (task .cpu) ⌝ }
+    ensures { λ u. ⌜ new slice ≡ set (old slice) at (task .slice) ⌝ }
+    ensures { λ u. ⌜ new mask ≡ set (old mask) at (task .mask) ⌝ }
 {
     state[at] = task.state;
     policy[at] = task.policy;
@@ -225,10 +251,12 @@ fn write(
     mask[at] = task.mask;
 }
 
-// The flag is the level of a CPU that runs no task.
+// A CPU's flag is set, and its level follows.
 fn set_flag(
-    flags: &mut [u8],
+    prio: &[u8],
+    rows: &[u16],
     counts: &[u16],
+    flags: &mut [u8],
     masks: &mut [u64; LEVELS],
     tallies: &mut [u8; LEVELS],
     words: &mut [u64; WORDS],
@@ -236,13 +264,24 @@ fn set_flag(
     cpu: usize,
     work: u8,
 )
-    requires { ⌜ ((m : Machine) × Flagging m (now flags) (now counts) (lentRecord (now masks) (now tallies) (now words) (now levels)) cpu work) ⌝ }
-    ensures { λ u. ⌜ now (flags .exit) ≡ set (now (flags .entry)) cpu work ⌝ }
-    ensures { λ u. ⌜ ((m : Machine) → Flagging m (now (flags .entry)) (now (counts .entry)) (lentRecord (now (masks .entry)) (now (tallies .entry)) (now (words .entry)) (now (levels .entry))) cpu work → lentRecord (now (masks .exit)) (now (tallies .exit)) (now (words .exit)) (now (levels .exit)) ≡ recordOf (levelsOf (withFlag cpu work m))) ⌝ }
+    requires { let r = nowRecord masks tallies words levels in
+        ⌜ ((m : Machine) × Flagging m (now prio) (now rows) (now counts) (now flags) r cpu work) ⌝ }
+    ensures { λ u. let r = oldRecord masks tallies words levels in
+        let q = newRecord masks tallies words levels in
+        ⌜ new flags ≡ set (old flags) cpu work ⌝
+        ∗ ⌜ ((m : Machine) → Flagging m (old prio) (old rows) (old counts) (old flags) r cpu work
+        → q ≡ recordOf (levelsOf (withFlag cpu work m))) ⌝ }
 {
     flags[cpu] = work;
-    if counts[cpu] != 0 {
-        return;
-    }
-    set_level(masks, tallies, words, levels, cpu, Level { number: work });
+    placement::follow(
+        rows,
+        counts,
+        prio,
+        flags,
+        masks,
+        tallies,
+        words,
+        levels,
+        cpu,
+    );
 }

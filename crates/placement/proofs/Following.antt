@@ -20,13 +20,9 @@ use Rattle.rules.specs.Plan.{When}
 use Rattle.rules.proofs.Lists.{same?}
 use Rattle.rules.proofs.Record.{length-levels, levels-below, levels-above}
 use Rattle.runqueue.specs.Table.{rowAt}
-use Rattle.placement.specs.Held.{InOrder, Following}
+use Rattle.placement.specs.Held.{InOrder, Following, followed}
 use Rattle.placement.proofs.Levels.{row-level-known}
 use Rattle.placement.proofs.Order.{read-row, above}
-
--- the levels xs with that of CPU c as it is in m, if it is to follow
-abbrev pub followed : Bool → ℕ → Machine → List ℕ → List ℕ
-followed b c m xs = cond b (set xs c (level m c)) xs
 
 module _ (m : Machine) where
   pub length-followed : (b : Bool) (c : ℕ) (xs : List ℕ) → length (followed b c m xs) ≡ length xs

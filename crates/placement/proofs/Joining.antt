@@ -1,6 +1,6 @@
 -- A task leaves or enters a row of the lent tables: what that needs, and what the tables then hold.
 -- Assumes nothing.
-use mathlib.Core.Path.{_≡_, sym, ap, _∙_, subst}
+use mathlib.Core.Path.{_≡_, refl, sym, ap, _∙_, subst}
 use mathlib.Core.List.{List}
 use Prim.Native.Nat.{ℕ, _<_}
 use native.Mathlib.Omega.{arith}
@@ -8,7 +8,7 @@ use lib.ListN.{length, getD}
 use Rattle.cpupri.specs.Record.{recordOf}
 use Rattle.levels.specs.declared.record.Record.{Record}
 use Rattle.rules.specs.Lists.{In, Falling, delete}
-use Rattle.rules.specs.Machine.{Machine, prioOf, row, levels, withRow, queued, dequeue, taskPlaces}
+use Rattle.rules.specs.Machine.{Machine, prioOf, row, levels, withRow, queued, enqueue, dequeue, taskPlaces}
 use Rattle.rules.specs.Tables.{flatOf, rowCounts}
 use Rattle.runqueue.specs.Table.{HoldsRows, Joinable, rowAt, rowsWith}
 use Rattle.placement.specs.Held.{Held, Entering}
@@ -65,11 +65,34 @@ module _ (m : Machine) {ps ks flat : List ℕ} {r : Record} {t c : ℕ} (l : Ent
   same-queue : queued (λ (u : ℕ). getD ps u 0) t (rowAt ks flat c) ≡ queued (prioOf m) t (row m c)
   same-queue = ap (λ (qs : List ℕ). queued (λ (u : ℕ). getD qs u 0) t (rowAt ks flat c)) (l .held .prio) ∙ ap (queued (prioOf m) t) row-is
 
-  -- the machine with the task in the row; its CPU column is apart
   pub has-entered : {ks′ flat′ : List ℕ} → flat′ ≡ flatOf (rowsWith ks flat c (queued (λ (u : ℕ). getD ps u 0) t (rowAt ks flat c)))
       → ks′ ≡ rowCounts (rowsWith ks flat c (queued (λ (u : ℕ). getD ps u 0) t (rowAt ks flat c)))
-      → let entered = withRow c (queued (prioOf m) t (row m c)) m in Held entered ps ks′ flat′ (recordOf (levels entered))
+      → Held (enqueue t c m) ps ks′ flat′ (recordOf (levels (enqueue t c m)))
   has-entered {ks′} {flat′} ef ek =
-      held-row m ps ks flat r c (queued (prioOf m) t (row m c)) (l .held) (l .cpu) (fine-queued m t c (l .held .order) (l .task) (l .high) (l .room)) ks′ flat′
-      (ek ∙ ap (λ (q : List ℕ). rowCounts (rowsWith ks flat c q)) same-queue)
-      (ef ∙ ap (λ (q : List ℕ). flatOf (rowsWith ks flat c q)) same-queue)
+      record {
+        order = record {
+          cpus = h .order .cpus;
+          rows = h .order .rows;
+          prios = h .order .prios;
+          fits = h .order .fits;
+          tasks = h .order .tasks;
+          high = h .order .high;
+          flags = h .order .flags;
+          falling = h .order .falling;
+        };
+        prio = h .prio;
+        counts = h .counts;
+        rows = h .rows;
+        levels = refl;
+      }
+    where
+      -- entering sets the CPU column besides
+      entered : Machine
+      entered = withRow c (queued (prioOf m) t (row m c)) m
+
+      h : Held entered ps ks′ flat′ (recordOf (levels entered))
+      h =
+          held-row m ps ks flat r c (queued (prioOf m) t (row m c)) (l .held) (l .cpu)
+          (fine-queued m t c (l .held .order) (l .task) (l .high) (l .room)) ks′ flat′
+          (ek ∙ ap (λ (q : List ℕ). rowCounts (rowsWith ks flat c q)) same-queue)
+          (ef ∙ ap (λ (q : List ℕ). flatOf (rowsWith ks flat c q)) same-queue)

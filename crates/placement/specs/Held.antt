@@ -1,13 +1,14 @@
 -- What the lent tables hold of a machine, as far as its run queues and levels go.
 -- Assumes nothing.
 use mathlib.Core.Path.{_≡_}
+use mathlib.Core.Bool.{Bool, cond}
 use mathlib.Core.List.{List}
 use Prim.Native.Nat.{ℕ, _≤_, _<_}
-use lib.ListN.{length}
+use lib.ListN.{length, set}
 use Rattle.cpupri.specs.Record.{recordOf}
 use Rattle.levels.specs.declared.record.Record.{Record}
 use Rattle.rules.specs.Lists.{In, Falling}
-use Rattle.rules.specs.Machine.{Machine, prioOf, row, flag, levels, taskPlaces, cpuPlaces, highestPriority}
+use Rattle.rules.specs.Machine.{Machine, prioOf, row, flag, level, levels, taskPlaces, cpuPlaces, highestPriority}
 use Rattle.rules.specs.Tables.{flatOf, rowCounts}
 
 -- a machine whose run queues are in order: what holds of a well-formed one, and of one from whose rows a task has been taken
@@ -48,3 +49,7 @@ pub record Following (m : Machine) (ps fs ks flat : List ℕ) (c : ℕ) : Type 0
   pub flags : fs ≡ m .flags
   pub flag-count : length (m .flags) ≡ m .n
   pub cpu : c < m .n
+
+-- the levels xs with that of CPU c as it is in m, if it is to follow
+abbrev pub followed : Bool → ℕ → Machine → List ℕ → List ℕ
+followed b c m xs = cond b (set xs c (level m c)) xs

@@ -1,23 +1,29 @@
--- `carrying::leave_if` meets its contract. Assumes nothing.
-use borrow.Author.Needs.{needs}
-use Rattle.carrying.proofs.Placing.{not-left, may-leave, has-left}
+-- `carrying::leave_if` meets its contract.
+-- Assumes nothing.
+use Rattle.placement.proofs.Joining.{can-leave, has-left as left}
+use Rattle.carrying.proofs.Optional.{not-left, may-leave, has-left}
 use Rattle.carrying.proofs.leave_if.Statement.{statement}
 use Rattle.carrying.proofs.leave_if.Tie as tie
+use Rattle.carrying.proofs.leave_if.Proof.Paths as at
+mod Paths
 
 returns : tie.Need-returns
-returns c = λ m l. not-left l (c .if1 .taken)
+returns c = λ m l. not-left l (at.returns c .if1 .taken)
 
-leave-requires : tie.Need-leave-requires
-leave-requires c κs = (c .before .before .before .before .before .before .before .before .before .before .before .pre .0, may-leave (c .before .before .before .before .before .before .before .before .before .before .before .pre .1) (c .before .before .before .before .before .before .if1 .left))
-
-same-length : tie.Need-same-length
-same-length c = search needs
-
-same-length-2 : tie.Need-same-length-2
-same-length-2 c = search needs
+dequeue-requires : tie.Need-dequeue-requires
+dequeue-requires c κs =
+    let k = at.dequeue-requires c in
+    let m = k .pre .0 in
+    let l = k .pre .1 in
+    let h = may-leave l (k .if1 .left) in
+    can-leave m (k .args .task) (l .queues) (h .0) (h .1)
 
 returns-2 : tie.Need-returns-2
-returns-2 c = λ m l. has-left l (c .before .before .before .before .before .before .before .before .before .before .before .if1 .left) (c .before .before .before .before .leave .ensures m (may-leave l (c .before .before .before .before .before .before .before .before .before .before .before .if1 .left)))
+returns-2 c =
+    λ m l.
+    let k = at.returns-2 c in
+    let h = may-leave l (k .if1 .left) in
+    has-left l (k .if1 .left) (left m (k .args .task) (l .queues) (h .0) (h .1) (k .dequeue .ensures .0) (k .dequeue .ensures .1))
 
 pub leave-if-spec : {M : Type 1} → statement M
-leave-if-spec = tie.close (tie.spec returns leave-requires same-length same-length-2 returns-2)
+leave-if-spec = at.close returns dequeue-requires returns-2

@@ -1,72 +1,65 @@
--- `carrying::place` meets its contract. Assumes nothing.
+-- `carrying::place` meets its contract.
+-- Assumes nothing.
 use borrow.Author.Needs.{needs}
-use mathlib.Core.Path.{_∙_}
-use Rattle.carrying.proofs.Placing.{leaves, sized, still-sized, wrote, enters, placed}
+use mathlib.Core.Path.{sym, subst}
+use Rattle.cpupri.specs.Record.{Whole}
+use Rattle.rules.specs.Plan.{left, wrote, carried}
+use Rattle.deciding.specs.Decided.{asPlan}
+use Rattle.carrying.proofs.Placing.{leaves, sized, still-sized, whole, enters, follows-origin, follows-target, placed}
+use Rattle.carrying.proofs.Optional.{still-whole-if}
 use Rattle.carrying.proofs.place.Statement.{statement}
 use Rattle.carrying.proofs.place.Tie as tie
+use Rattle.carrying.proofs.place.Proof.Paths as at
+mod Paths
 
 leave-if-requires : tie.Need-leave-if-requires
-leave-if-requires c κs = (c .before .before .before .before .before .before .before .before .before .before .before .before .before .before .before .before .before .pre .0, leaves (c .before .before .before .before .before .before .before .before .before .before .before .before .before .before .before .before .before .pre .1))
+leave-if-requires c κs = let k = at.leave-if-requires c in (k .pre .0, leaves (k .pre .1))
 
 cast-write : tie.Need-cast-write
 cast-write c = search needs
 
 write-requires : tie.Need-write-requires
-write-requires c κs = (c .before .before .before .before .before .before .before .before .before .before .before .before .before .before .before .before .before .before .before .before .before .before .before .before .before .before .before .before .before .pre .1 .ready .task, sized (c .before .before .before .before .before .before .before .before .before .before .before .before .before .before .before .before .before .before .before .before .before .before .before .before .before .before .before .before .before .pre .1))
+write-requires c κs = let l = at.write-requires c .pre .1 in (l .ready .task, sized l)
 
 enter-if-requires : tie.Need-enter-if-requires
 enter-if-requires c κs =
-    let l = c .before .before .before .before .before .before .before .before .before .before .before .before .before .before .before .before .before .before .before .before .before .before .before .before .before .before .before .before .before .before .before .before .before .before .before .before .before .before .before .before .before .before .before .before .before .before .before .before .before .before .pre .1 in
-    let o = c .before .before .before .before .before .before .before .before .before .before .before .before .before .before .before .before .before .before .before .before .before .before .before .before .before .before .before .before .before .before .before .before .leave-if .ensures (c .before .before .before .before .before .before .before .before .before .before .before .before .before .before .before .before .before .before .before .before .before .before .before .before .before .before .before .before .before .before .before .before .before .before .before .before .before .before .before .before .before .before .before .before .before .before .before .before .before .before .pre .0) (leaves l) in
-    let w = c .before .before .before .before .before .before .before .before .before .before .before .before .before .before .before .before .before .before .before .before .write .ensures in
-    ((wrote l o _ (w .1 .1 .0), enters l o _ (w .1 .1 .0)), still-sized l (w .1 .1 .1 .0))
+    let k = at.enter-if-requires c in
+    let l = k .pre .1 in
+    let o = k .leave-if .ensures (k .pre .0) (leaves l) in
+    let w = k .write .ensures in
+    ((wrote (asPlan (k .args .plan)) (k .pre .0), enters l o (w .1 .1 .0)), still-sized l (w .1 .1 .1 .0))
 
-same-length : tie.Need-same-length
-same-length c = search needs
+follow-if-requires : tie.Need-follow-if-requires
+follow-if-requires c κs =
+    let k = at.follow-if-requires c in
+    let m = k .pre .0 in
+    let l = k .pre .1 in
+    let o = k .leave-if .ensures m (leaves l) in
+    let w = k .write .ensures in
+    let e = k .enter-if .ensures .0 _ (enters l o (w .1 .1 .0)) in
+    ((carried (asPlan (k .args .plan)) m, follows-origin l o (w .1 .1 .0) e), whole l)
 
-same-length-2 : tie.Need-same-length-2
-same-length-2 c = search needs
-
-same-length-3 : tie.Need-same-length-3
-same-length-3 c = search needs
-
-same-length-4 : tie.Need-same-length-4
-same-length-4 c = search needs
-
-same-length-5 : tie.Need-same-length-5
-same-length-5 c = search needs
-
-same-length-6 : tie.Need-same-length-6
-same-length-6 c = search needs
-
-same-length-7 : tie.Need-same-length-7
-same-length-7 c = c .before .before .before .before .before .before .enter-if .kept .1 .0 ∙ c .before .before .before .before .before .before .before .before .before .before .before .before .before .before .before .before .before .before .before .before .before .before .before .before .before .before .before .before .before .before .before .before .before .before .before .before .before .before .before .leave-if .kept .1 .0
-
-same-length-8 : tie.Need-same-length-8
-same-length-8 c = c .before .before .before .before .before .before .enter-if .kept .1 .1 .0 ∙ c .before .before .before .before .before .before .before .before .before .before .before .before .before .before .before .before .before .before .before .before .before .before .before .before .before .before .before .before .before .before .before .before .before .before .before .before .before .before .before .leave-if .kept .1 .1 .0
+follow-if-requires-2 : tie.Need-follow-if-requires-2
+follow-if-requires-2 c κs =
+    let k = at.follow-if-requires-2 c in
+    let m = k .pre .0 in
+    let l = k .pre .1 in
+    let o = k .leave-if .ensures m (leaves l) in
+    let w = k .write .ensures in
+    let e = k .enter-if .ensures .0 _ (enters l o (w .1 .1 .0)) in
+    let f = follows-origin l o (w .1 .1 .0) e in
+    ((carried (asPlan (k .args .plan)) m, follows-target l o (w .1 .1 .0) e), subst Whole (sym (k .follow-if .ensures _ f)) (still-whole-if f (whole l)))
 
 returns : tie.Need-returns
 returns c =
     λ m l.
-    let o = c .before .before .before .before .before .before .before .before .before .before .before .before .before .before .before .before .before .before .before .before .before .before .before .before .before .before .before .before .before .before .before .before .before .before .before .before .before .before .before .leave-if .ensures m (leaves l) in
-    let w = c .before .before .before .before .before .before .before .before .before .before .before .before .before .before .before .before .before .before .before .before .before .before .before .before .before .before .before .write .ensures in
-    let e = c .before .before .before .before .before .before .enter-if .ensures in
-    placed l o _ (w .1 .1 .0) (e .0 (wrote l o _ (w .1 .1 .0)) (enters l o _ (w .1 .1 .0))) (w .0) (w .1 .0) (w .1 .1 .1 .0) (w .1 .1 .1 .1 .0) (w .1 .1 .1 .1 .1) (e .1)
+    let k = at.returns c in
+    let o = k .leave-if .ensures m (leaves l) in
+    let w = k .write .ensures in
+    let e = k .enter-if .ensures .0 _ (enters l o (w .1 .1 .0)) in
+    let r = k .follow-if .ensures _ (follows-origin l o (w .1 .1 .0) e) in
+    let q = k .follow-if2 .ensures _ (follows-target l o (w .1 .1 .0) e) in
+    placed l o (w .1 .1 .0) e (w .0) (w .1 .0) (w .1 .1 .1 .0) (w .1 .1 .1 .1 .0) (w .1 .1 .1 .1 .1) (k .enter-if .ensures .1) r q
 
 pub place-spec : {M : Type 1} → statement M
-place-spec =
-    tie.close
-    (tie.spec
-    leave-if-requires
-    cast-write
-    write-requires
-    enter-if-requires
-    same-length
-    same-length-2
-    same-length-3
-    same-length-4
-    same-length-5
-    same-length-6
-    same-length-7
-    same-length-8
-    returns)
+place-spec = at.close leave-if-requires cast-write write-requires enter-if-requires follow-if-requires follow-if-requires-2 returns
