@@ -6,9 +6,8 @@ use mathlib.Core.List.{List}
 use Prim.Native.Nat.{ℕ, zero, suc, _*_, _≤_, _<_}
 use native.Mathlib.Omega.{arith}
 use lib.ListN.{length}
-use Rattle.cpupri.specs.Record.{recordOf}
 use Rattle.levels.specs.declared.record.Record.{Record}
-use Rattle.rules.specs.Machine.{Machine, row, levels, taskPlaces, cpuPlaces}
+use Rattle.rules.specs.Machine.{Machine, taskPlaces, cpuPlaces}
 use Rattle.rules.specs.WellFormed.{WellFormed}
 use Rattle.rules.specs.Events.{Event, effect}
 use Rattle.rules.specs.Refusals.{refusal}
@@ -24,7 +23,7 @@ use Rattle.rules.proofs.Tables.{write-read, stored-test}
 use Rattle.rules.proofs.Entry.{checked-good, good-checked, handled-answer, handled-refused, handled-accepted, handled-good, start-n}
 use Rattle.rules.proofs.LentDemand3.{handled-lent}
 use Rattle.checker.specs.Lent.{lent}
-use Rattle.deciding.specs.Decided.{did, firstOf, Lent, LentRows, Decides}
+use Rattle.deciding.specs.Decided.{did, subjectOf, Lent, LentRows, Decides}
 use Rattle.deciding.specs.declared.plan.Decision.{Decision}
 use Rattle.deciding.specs.declared.plan.Decision.the-variants.{Refused}
 use Rattle.carrying.specs.Holds.{Holds, Carriable}
@@ -63,12 +62,17 @@ same-tables s t h = whole
         let k = h .log in
         cc
 
-module _ (n : ℕ) (r : Record) (s : Tables) (h : checked n r s ≡ 0) where
+-- ---- tables that pass the check
+
+pub record Passed (n : ℕ) (r : Record) (s : Tables) : Type 0 where
+  pub checks : checked n r s ≡ 0
+
+module _ {n : ℕ} {r : Record} {s : Tables} (h : Passed n r s) where
   abbrev before : Machine
   before = machineOf n s
 
   good : Good n r s
-  good = checked-good n r s h
+  good = checked-good n r s (h .checks)
 
   -- rows that are read are written back as they were
   back : (flatOf (rowsOf (s .counts) (s .rows)) ≡ s .rows) × (rowCounts (rowsOf (s .counts) (s .rows)) ≡ s .counts)
@@ -77,7 +81,7 @@ module _ (n : ℕ) (r : Record) (s : Tables) (h : checked n r s ≡ 0) where
       long : length (s .rows) ≡ taskPlaces * length (s .counts)
       long = good .rows ∙ ap (λ (k : ℕ). taskPlaces * k) (sym (good .counts))
 
-  pub holds : Holds (machineOf n s) (s .state) (s .policy) (s .prio) (s .cpu) (s .slice) (s .mask) (s .rows) (s .counts) (s .flags) r
+  holds : Holds before (s .state) (s .policy) (s .prio) (s .cpu) (s .slice) (s .mask) (s .rows) (s .counts) (s .flags) r
   holds =
       record {
         state = refl;
@@ -95,9 +99,9 @@ module _ (n : ℕ) (r : Record) (s : Tables) (h : checked n r s ≡ 0) where
   pub lent-rows : LentRows (machineOf n s) n (s .rows) (s .counts)
   lent-rows = record { formed = good .machine; cpus = refl; rows = holds .rows; counts = holds .counts }
 
-  pub lent-columns : (who first : ℕ) → first ≡ firstOf (row (machineOf n s) who)
-      → Lent (machineOf n s) n (s .state) (s .policy) (s .prio) (s .cpu) (s .slice) (s .mask) who first
-  lent-columns who first e =
+  pub lent-columns : (kind who : ℕ) {t : ℕ} → t ≡ subjectOf (machineOf n s) kind who
+      → Lent (machineOf n s) n (s .state) (s .policy) (s .prio) (s .cpu) (s .slice) (s .mask) t kind who
+  lent-columns kind who e =
       record {
         formed = good .machine;
         cpus = refl;
@@ -107,136 +111,145 @@ module _ (n : ℕ) (r : Record) (s : Tables) (h : checked n r s ≡ 0) where
         cpu = refl;
         slice = refl;
         mask = refl;
-        runs = e;
+        subject = e;
       }
 
   -- ---- the decision
 
-  module _ (e : Event) (d : Decision) (right : Decides (machineOf n s) e d) where
+  module _ (e : Event) {d : Decision} (right : Decides (machineOf n s) e d) where
     pub carriable : Carriable (machineOf n s) (s .state) (s .policy) (s .prio) (s .cpu) (s .slice) (s .mask) (s .rows) (s .counts) (s .flags) r d
     carriable = record { formed = good .machine; holds = holds; ready = ready before e d right }
 
     -- refused: nothing was written
-    pub refused-result : (a : ℕ) → d ≡ Refused a → (result a 0 r s ≡ handled n r s e) × (checked n r s ≡ 0)
+    pub refused-result : {a : ℕ} → d ≡ Refused a → (result a 0 r s ≡ handled n r s e) × (checked n r s ≡ 0)
     unfolding eventAnswer
-    refused-result a is = (go a refl (refused before e a (subst (Decides before e) is right)), h)
+    refused-result {a} is = (go a refl (refused before e a (subst (Decides before e) is right)), h .checks)
       where
         go : (b : ℕ) → a ≡ b → (a ≡ refusal before e) × (a ≡ 0 → ⊥) → result a 0 r s ≡ handled n r s e
         go zero x f = absurd (f .1 x)
         go (suc b) x f =
             ap (λ (k : ℕ). kept k r s) x
-            ∙ sym (handled-refused n r s e b (ap (λ (k : ℕ). orElse k (refusal before e)) h ∙ sym (f .0) ∙ x))
+            ∙ sym (handled-refused n r s e b (ap (λ (k : ℕ). orElse k (refusal before e)) (h .checks) ∙ sym (f .0) ∙ x))
 
-    -- ---- taken: the tables t after it was carried out
+-- ---- the event was accepted and its own effect left the tables t and the record q
 
-    module _ (z : accepted d ≡ true) (t : Tables) (q : Record) (log : t .log ≡ s .log)
-        (done : Holds (did d (machineOf n s)) (t .state) (t .policy) (t .prio) (t .cpu) (t .slice) (t .mask) (t .rows) (t .counts) (t .flags) q) where
-      abbrev start : Machine
-      start = effect e before
+pub record Carried (n : ℕ) (r : Record) (s : Tables) (e : Event) (t : Tables) (q : Record) : Type 0 where
+  pub passed : Passed n r s
+  pub takes : refusal (machineOf n s) e ≡ 0
+  pub log : t .log ≡ s .log
+  pub done : Holds (effect e (machineOf n s)) (t .state) (t .policy) (t .prio) (t .cpu) (t .slice) (t .mask) (t .rows) (t .counts) (t .flags) q
 
-      takes : refusal before e ≡ 0
-      takes = taken before e d right z .0
+pub carries : {n : ℕ} {r : Record} {s : Tables} (e : Event) {t : Tables} {q : Record} (d : Decision) → Passed n r s
+    → Decides (machineOf n s) e d → accepted d ≡ true → t .log ≡ s .log → Holds (did d (machineOf n s)) (t .state) (t .policy) (t .prio) (t .cpu) (t .slice) (t .mask) (t .rows) (t .counts) (t .flags) q
+    → Carried n r s e t q
+carries {n} {r} {s} e {t} {q} d h right z log done =
+    let ok : (refusal (machineOf n s) e ≡ 0) × (did d (machineOf n s) ≡ effect e (machineOf n s)) = taken (machineOf n s) e d right z in
+    record {
+      passed = h;
+      takes = ok .0;
+      log = log;
+      done = subst (λ (m : Machine). Holds m (t .state) (t .policy) (t .prio) (t .cpu) (t .slice) (t .mask) (t .rows) (t .counts) (t .flags) q) (ok .1) done;
+    }
 
-      start-is : did d before ≡ start
-      start-is = taken before e d right z .1
+module _ {n : ℕ} {r : Record} {s : Tables} {e : Event} {t : Tables} {q : Record} (h : Carried n r s e t q) where
+  abbrev start : Machine
+  start = effect e (machineOf n s)
 
-      answer-zero-is : eventAnswer n r s e ≡ 0
-      unfolding eventAnswer
-      answer-zero-is = ap (λ (x : ℕ). orElse x (refusal before e)) h ∙ takes
+  accepted-is : eventAnswer n r s e ≡ 0
+  unfolding eventAnswer
+  accepted-is = ap (λ (x : ℕ). orElse x (refusal (machineOf n s) e)) (h .passed .checks) ∙ h .takes
 
-      well : WellFormed start
-      well = keep-effect before e (good .machine) takes
+  well : WellFormed start
+  well = keep-effect (machineOf n s) e (good (h .passed) .machine) (h .takes)
 
-      start-tables : t ≡ tablesOf start (s .log)
-      start-tables =
-          same-tables t _
-          (record {
-            state = done .state;
-            policy = done .policy;
-            prio = done .prio;
-            cpu = done .cpu;
-            slice = done .slice;
-            mask = done .mask;
-            rows = done .rows;
-            counts = done .counts;
-            flags = done .flags;
-            log = log;
-          })
-          ∙ ap (λ (m : Machine). tablesOf m (s .log)) start-is
+  start-tables : t ≡ tablesOf start (s .log)
+  start-tables =
+      same-tables t _
+      (record {
+        state = h .done .state;
+        policy = h .done .policy;
+        prio = h .done .prio;
+        cpu = h .done .cpu;
+        slice = h .done .slice;
+        mask = h .done .mask;
+        rows = h .done .rows;
+        counts = h .done .counts;
+        flags = h .done .flags;
+        log = h .log;
+      })
 
-      pub start-settling : Settling (effect e (machineOf n s)) (t .prio) (t .cpu) (t .mask) (t .counts) (t .rows) q
-      start-settling =
-          record {
-            well = well;
-            held = record {
-              order = well-formed-order start well;
-              prio = ap (λ (x : Tables). x .prio) start-tables;
-              counts = ap (λ (x : Tables). x .counts) start-tables;
-              rows = ap (λ (x : Tables). x .rows) start-tables;
-              levels = done .levels ∙ ap (λ (m : Machine). recordOf (levels m)) start-is;
-            };
-            cpus = ap (λ (x : Tables). x .cpu) start-tables;
-            masks = ap (λ (x : Tables). x .mask) start-tables;
-          }
+  pub start-settling : Settling (effect e (machineOf n s)) (t .prio) (t .cpu) (t .mask) (t .counts) (t .rows) q
+  start-settling =
+      record {
+        well = well;
+        held = record {
+          order = well-formed-order start well;
+          prio = h .done .prio;
+          counts = h .done .counts;
+          rows = h .done .rows;
+          levels = h .done .levels;
+        };
+        cpus = h .done .cpu;
+        masks = h .done .mask;
+      }
 
-      pub start-cpus : n ≡ effect e (machineOf n s) .n
-      start-cpus = sym (start-n n r s e answer-zero-is)
+  pub start-cpus : n ≡ effect e (machineOf n s) .n
+  start-cpus = sym (start-n n r s e accepted-is)
 
-      pub log-long : length (t .log) ≡ logPlaces
-      log-long = ap length log ∙ good .log
+  pub log-long : length (t .log) ≡ logPlaces
+  log-long = ap length (h .log) ∙ good (h .passed) .log
 
-      -- ---- after the steps
+  -- ---- after the steps
 
-      module _ (cs ks flat lg : List ℕ) (k : ℕ) (p : Record)
-          (ended : Ended (settled (effect e (machineOf n s))) (t .prio) cs ks flat (t .log) lg k p) where
-        abbrev steps : Settled
-        steps = settled start
+  module _ {cs ks flat lg : List ℕ} {k : ℕ} {p : Record} (ended : Ended (settled (effect e (machineOf n s))) (t .prio) cs ks flat (t .log) lg k p) where
+    abbrev steps : Settled
+    steps = settled start
 
-        abbrev after : Tables
-        after = lent (t .state) (t .policy) (t .prio) cs (t .slice) (t .mask) flat ks (t .flags) lg
+    abbrev after : Tables
+    after = lent (t .state) (t .policy) (t .prio) cs (t .slice) (t .mask) flat ks (t .flags) lg
 
-        -- steps leave the other columns alone
-        stays : (f : Machine → List ℕ) → ((v : Move) (m : Machine) → f (migrate v m) ≡ f m) → f start ≡ f (steps .machine)
-        stays f c = sym (run-keeps f c (settle-run (start .n) start))
+    -- steps leave the other columns alone
+    stays : (f : Machine → List ℕ) → ((v : Move) (m : Machine) → f (migrate v m) ≡ f m) → f start ≡ f (steps .machine)
+    stays f c = sym (run-keeps f c (settle-run (start .n) start))
 
-        after-is : after ≡ tablesOf (steps .machine) (logged (steps .log) (s .log))
-        after-is =
-            same-tables after _
-            (record {
-              state = ap (λ (x : Tables). x .state) start-tables ∙ stays (λ m. m .state) (λ v m. refl);
-              policy = ap (λ (x : Tables). x .policy) start-tables ∙ stays (λ m. m .policy) (λ v m. refl);
-              prio = ended .held .prio;
-              cpu = ended .cpus;
-              slice = ap (λ (x : Tables). x .slice) start-tables ∙ stays (λ m. m .slice) (λ v m. refl);
-              mask = ap (λ (x : Tables). x .mask) start-tables ∙ stays (λ m. m .mask) (λ v m. refl);
-              rows = ended .held .rows;
-              counts = ended .held .counts;
-              flags = ap (λ (x : Tables). x .flags) start-tables ∙ stays (λ m. m .flags) (λ v m. refl);
-              log = ended .logs ∙ ap (logged (steps .log)) log;
-            })
+    after-is : after ≡ tablesOf (steps .machine) (logged (steps .log) (s .log))
+    after-is =
+        same-tables after _
+        (record {
+          state = h .done .state ∙ stays (λ m. m .state) (λ v m. refl);
+          policy = h .done .policy ∙ stays (λ m. m .policy) (λ v m. refl);
+          prio = ended .held .prio;
+          cpu = ended .cpus;
+          slice = h .done .slice ∙ stays (λ m. m .slice) (λ v m. refl);
+          mask = h .done .mask ∙ stays (λ m. m .mask) (λ v m. refl);
+          rows = ended .held .rows;
+          counts = ended .held .counts;
+          flags = h .done .flags ∙ stays (λ m. m .flags) (λ v m. refl);
+          log = ended .logs ∙ ap (logged (steps .log)) (h .log);
+        })
 
-        taken-is : result 0 k p after ≡ handled n r s e
-        taken-is =
-            let few = ended .moves in
-            let levels = ended .held .levels in
-            let tables = after-is in
-            let all : result 0 k p after ≡ written (length (steps .log)) (steps .machine) (logged (steps .log) (s .log)) = cc in
-            all ∙ sym (ap (λ (o : Outcome). written (o .moves) (o .machine) (logged (o .log) (s .log))) (outcome-accepted before e takes))
-            ∙ sym (handled-accepted n r s e answer-zero-is)
+    taken-is : result 0 k p after ≡ handled n r s e
+    taken-is =
+        let few = ended .moves in
+        let levels = ended .held .levels in
+        let tables = after-is in
+        let all : result 0 k p after ≡ written (length (steps .log)) (steps .machine) (logged (steps .log) (s .log)) = cc in
+        all ∙ sym (ap (λ (o : Outcome). written (o .moves) (o .machine) (logged (o .log) (s .log))) (outcome-accepted (machineOf n s) e (h .takes)))
+        ∙ sym (handled-accepted n r s e accepted-is)
 
-        pub taken-result : (result 0 k p (lent (t .state) (t .policy) (t .prio) cs (t .slice) (t .mask) flat ks (t .flags) lg) ≡ handled n r s e)
-            × (checked n p (lent (t .state) (t .policy) (t .prio) cs (t .slice) (t .mask) flat ks (t .flags) lg) ≡ 0)
-        taken-result = (
-          taken-is,
-          good-checked n p after (subst (λ (x : Result). Good n (x .cpupri) (x .tables)) (sym taken-is) (handled-good n r s e answer-zero-is)),
-        )
+    pub taken-result : (result 0 k p (lent (t .state) (t .policy) (t .prio) cs (t .slice) (t .mask) flat ks (t .flags) lg) ≡ handled n r s e)
+        × (checked n p (lent (t .state) (t .policy) (t .prio) cs (t .slice) (t .mask) flat ks (t .flags) lg) ≡ 0)
+    taken-result = (
+      taken-is,
+      good-checked n p after (subst (λ (x : Result). Good n (x .cpupri) (x .tables)) (sym taken-is) (handled-good n r s e accepted-is)),
+    )
 
-        -- there are fewer moves than CPUs
-        pub taken-few : k < cpuPlaces
-        taken-few =
-            let few : suc (length (steps .log)) ≤ start .n = run-few well (settle-run (start .n) start) in
-            let count : k ≡ length (steps .log) = ended .moves in
-            omega (arith, well .shape .cpus)
+    -- there are fewer moves than CPUs
+    pub taken-few : k < cpuPlaces
+    taken-few =
+        let few : suc (length (steps .log)) ≤ start .n = run-few well (settle-run (start .n) start) in
+        let count : k ≡ length (steps .log) = ended .moves in
+        omega (arith, well .shape .cpus)
 
 -- ---- refused by the check
 

@@ -1,16 +1,16 @@
 // An event on tables that pass the check: the event's own effect, then migration steps until none applies.
 ghost use mathlib.Core.Path.{_≡_};
-ghost use Rattle.cpupri.specs.Record.{lentRecord};
+ghost use Rattle.levels.specs.Lent.{nowRecord, oldRecord, newRecord};
 ghost use Rattle.rules.specs.Entry.{result, checked, handled};
 ghost use Rattle.rules.specs.Events.{event as numbers};
-ghost use Rattle.checker.specs.Lent.{lent};
+ghost use Rattle.checker.specs.Lent.{nowTables, oldTables, newTables};
 use carrying::carry_out;
 use cpupri::record::CPUS;
 use cpupri::record::LEVELS;
 use cpupri::record::WORDS;
 use deciding::decide;
 use deciding::plan::Decision;
-use deciding::read::running;
+use deciding::read::subject;
 use migration::settle::settle;
 
 // The answer to an event: 0 and the number of moves, or a refusal with 0 moves, which changes nothing.
@@ -42,11 +42,16 @@ pub fn handle(
     b: u32,
     k: u64,
 ) -> Handled
-    requires { ⌜ checked n (lentRecord (now masks) (now tallies) (now words) (now levels)) (lent (now state) (now policy) (now prio) (now cpu) (now slice) (now mask) (now rows) (now counts) (now flags) (now log)) ≡ 0 ⌝ }
-    ensures { λ o. ⌜ result (o .answer) (o .moves) (lentRecord (now (masks .exit)) (now (tallies .exit)) (now (words .exit)) (now (levels .exit))) (lent (now (state .exit)) (now (policy .exit)) (now (prio .exit)) (now (cpu .exit)) (now (slice .exit)) (now (mask .exit)) (now (rows .exit)) (now (counts .exit)) (now (flags .exit)) (now (log .exit))) ≡ handled n (lentRecord (now (masks .entry)) (now (tallies .entry)) (now (words .entry)) (now (levels .entry))) (lent (now (state .entry)) (now (policy .entry)) (now (prio .entry)) (now (cpu .entry)) (now (slice .entry)) (now (mask .entry)) (now (rows .entry)) (now (counts .entry)) (now (flags .entry)) (now (log .entry))) (numbers kind who a b k) ⌝ }
-    ensures { λ o. ⌜ checked n (lentRecord (now (masks .exit)) (now (tallies .exit)) (now (words .exit)) (now (levels .exit))) (lent (now (state .exit)) (now (policy .exit)) (now (prio .exit)) (now (cpu .exit)) (now (slice .exit)) (now (mask .exit)) (now (rows .exit)) (now (counts .exit)) (now (flags .exit)) (now (log .exit))) ≡ 0 ⌝ }
+    requires { let r = nowRecord masks tallies words levels in
+        ⌜ checked n r (nowTables state policy prio cpu slice mask rows counts flags log) ≡ 0 ⌝ }
+    ensures { λ o. let r = oldRecord masks tallies words levels in
+        let q = newRecord masks tallies words levels in
+        let s = oldTables state policy prio cpu slice mask rows counts flags log in
+        let t = newTables state policy prio cpu slice mask rows counts flags log in
+        ⌜ result (o .answer) (o .moves) q t ≡ handled n r s (numbers kind who a b k) ⌝
+        ∗ ⌜ checked n q t ≡ 0 ⌝ }
 {
-    let first = running(n, rows, counts, who);
+    let at = subject(n, rows, counts, kind, who);
     let decision = decide(
         n,
         state,
@@ -55,7 +60,7 @@ pub fn handle(
         cpu,
         slice,
         mask,
-        first,
+        at,
         kind,
         who,
         a,

@@ -1,201 +1,115 @@
--- `handling::handle` meets its contract. Assumes nothing.
+-- `handling::handle` meets its contract.
+-- Assumes nothing.
 use borrow.Author.Needs.{needs}
-use mathlib.Core.Path.{refl, _∙_}
+use mathlib.Core.Path.{refl}
 use native.Mathlib.Omega.{arith}
+use Rattle.levels.specs.Lent.{nowRecord}
+use Rattle.levels.specs.declared.record.Record.{Record}
 use Rattle.cpupri.specs.Record.{lentRecord}
-use Rattle.rules.specs.Events.{event, effect}
-use Rattle.rules.specs.Tables.{machineOf}
-use Rattle.checker.specs.Lent.{lent}
+use Rattle.rules.specs.Events.{Event, event, effect}
+use Rattle.rules.specs.Machine.{Machine}
+use Rattle.rules.specs.Tables.{Tables, machineOf}
+use Rattle.checker.specs.Lent.{lent, nowTables}
+use Rattle.deciding.specs.Decided.{Decides}
 use Rattle.handling.proofs.Decisions.{not-refused}
-use Rattle.handling.proofs.Handling.{lent-rows, lent-columns, carriable, refused-result, start-settling, start-cpus, log-long, taken-result, taken-few}
+use Rattle.handling.proofs.Handling.{Passed, Carried, lent-rows, lent-columns, carriable, refused-result, carries, start-settling, start-cpus, log-long, taken-result, taken-few}
 use Rattle.handling.proofs.handle.Statement.{statement}
 use Rattle.handling.proofs.handle.Tie as tie
+use Rattle.handling.proofs.handle.Proof.Paths as at
+mod Paths
 
-running-requires : tie.Need-running-requires
-running-requires c κs =
-    let x = c .before .before .before .before .before .before .before .before .before .before .before .before .args in
-    let r = lentRecord (x .masks .now) (x .tallies .now) (x .words .now) (x .levels .now) in
-    let t = lent (x .state .now) (x .policy .now) (x .prio .now) (x .cpu .now) (x .slice .now) (x .mask .now) (x .rows .now) (x .counts .now) (x .flags .now) (x .log .now) in
-    let good = c .before .before .before .before .before .before .before .before .before .before .before .before .pre in
-    (machineOf (x .n) t, lent-rows (x .n) r t good)
+-- ---- what the caller lent
+
+module _ (c : tie.Start) where
+  abbrev tables : Tables
+  tables =
+      let x = c .args in
+      nowTables (x .state) (x .policy) (x .prio) (x .cpu) (x .slice) (x .mask) (x .rows) (x .counts) (x .flags) (x .log)
+
+  abbrev levels : Record
+  levels = let x = c .args in nowRecord (x .masks) (x .tallies) (x .words) (x .levels)
+
+  abbrev asked : Event
+  asked = let x = c .args in event (x .kind) (x .who) (x .a) (x .b) (x .k)
+
+  abbrev machine : Machine
+  machine = machineOf (c .args .n) tables
+
+  passed : Passed (c .args .n) levels tables
+  passed = record { checks = c .pre }
+
+-- ---- what was decided
+
+module _ (c : tie.After-decide) where
+  right : let k = at.after-decide c in Decides (machine (k .start)) (asked (k .start)) (k .decide .result)
+  right =
+      let k = at.after-decide c in
+      let h = passed (k .start) in
+      k .decide .ensures _ (lent-columns h (k .args .kind) (k .args .who) (k .subject .ensures _ (lent-rows h)))
+
+-- ---- what carrying it out left
+
+module _ (c : tie.After-carry-out) where
+  abbrev left : Tables
+  left =
+      let k = at.after-carry-out c in
+      let o = k .carry-out-last in
+      lent (o .state) (o .policy) (o .prio) (o .cpu) (o .slice) (o .mask) (o .rows) (o .counts) (o .flags) (k .args .log .now)
+
+  abbrev left-levels : Record
+  left-levels = let o = at.after-carry-out c .carry-out-last in lentRecord (o .masks) (o .tallies) (o .words) (o .levels)
+
+  carried : let k = at.after-carry-out c in let s = k .start in Carried (k .args .n) (levels s) (tables s) (asked s) left left-levels
+  carried =
+      let k = at.after-carry-out c in
+      let h = passed (k .start) in
+      let e = asked (k .start) in
+      let d = k .decide .result in
+      let ok = right (k .after-decide) in
+      carries e d h ok (not-refused d (k .match .keys2)) refl (k .carry-out .ensures _ (carriable h e ok))
+
+-- ---- the needs
+
+subject-requires : tie.Need-subject-requires
+subject-requires c κs = let s = at.subject-requires c .start in (machine s, lent-rows (passed s))
 
 decide-requires : tie.Need-decide-requires
 decide-requires c κs =
-    let x = c .before .before .before .before .before .before .before .before .before .before .before .before .before .before .before .before .before .before .before .args in
-    let r = lentRecord (x .masks .now) (x .tallies .now) (x .words .now) (x .levels .now) in
-    let t = lent (x .state .now) (x .policy .now) (x .prio .now) (x .cpu .now) (x .slice .now) (x .mask .now) (x .rows .now) (x .counts .now) (x .flags .now) (x .log .now) in
-    let good = c .before .before .before .before .before .before .before .before .before .before .before .before .before .before .before .before .before .before .before .pre in
-    let first = c .before .before .before .before .before .before .running .ensures (machineOf (x .n) t) (lent-rows (x .n) r t good) in
-    (machineOf (x .n) t, lent-columns (x .n) r t good (x .who) (c .before .before .before .before .before .before .running .result) first)
+    let k = at.decide-requires c in
+    let h = passed (k .start) in
+    (machine (k .start), lent-columns h (k .args .kind) (k .args .who) (k .subject .ensures _ (lent-rows h)))
 
 enum-known-decision : tie.Need-enum-known-decision
 enum-known-decision c = search needs
 
-same-length : tie.Need-same-length
-same-length c = search needs
-
-same-length-2 : tie.Need-same-length-2
-same-length-2 c = search needs
-
-same-length-3 : tie.Need-same-length-3
-same-length-3 c = search needs
-
-same-length-4 : tie.Need-same-length-4
-same-length-4 c = search needs
-
-same-length-5 : tie.Need-same-length-5
-same-length-5 c = search needs
-
-same-length-6 : tie.Need-same-length-6
-same-length-6 c = search needs
-
-same-length-7 : tie.Need-same-length-7
-same-length-7 c = search needs
-
-same-length-8 : tie.Need-same-length-8
-same-length-8 c = search needs
-
 returns : tie.Need-returns
-returns c =
-    let x = c .before .before .before .before .before .before .before .before .before .before .before .before .before .before .before .before .before .before .before .before .before .before .before .args in
-    let r = lentRecord (x .masks .now) (x .tallies .now) (x .words .now) (x .levels .now) in
-    let t = lent (x .state .now) (x .policy .now) (x .prio .now) (x .cpu .now) (x .slice .now) (x .mask .now) (x .rows .now) (x .counts .now) (x .flags .now) (x .log .now) in
-    let good = c .before .before .before .before .before .before .before .before .before .before .before .before .before .before .before .before .before .before .before .before .before .before .before .pre in
-    let first = c .before .before .before .before .before .before .before .before .before .before .running .ensures (machineOf (x .n) t) (lent-rows (x .n) r t good) in
-    let e = event (x .kind) (x .who) (x .a) (x .b) (x .k) in
-    let right = c .before .before .before .decide .ensures (machineOf (x .n) t) (lent-columns (x .n) r t good (x .who) (c .before .before .before .before .before .before .before .before .before .before .running .result) first) in
-    let d = c .before .before .before .decide .result in
-    refused-result (x .n) r t good e d right (c .before .decision .given .0 .0) (c .before .decision .given .1)
+returns c = let k = at.returns c in refused-result (passed (k .start)) (asked (k .start)) (right (k .after-decide)) (k .decision .given .1)
 
 carry-out-requires : tie.Need-carry-out-requires
 carry-out-requires c κs =
-    let x = c .before .before .before .before .before .before .before .before .before .before .before .before .before .before .before .before .before .before .before .before .before .before .before .before .before .before .before .before .before .before .before .before .before .before .args in
-    let r = lentRecord (x .masks .now) (x .tallies .now) (x .words .now) (x .levels .now) in
-    let t = lent (x .state .now) (x .policy .now) (x .prio .now) (x .cpu .now) (x .slice .now) (x .mask .now) (x .rows .now) (x .counts .now) (x .flags .now) (x .log .now) in
-    let good = c .before .before .before .before .before .before .before .before .before .before .before .before .before .before .before .before .before .before .before .before .before .before .before .before .before .before .before .before .before .before .before .before .before .before .pre in
-    let first = c .before .before .before .before .before .before .before .before .before .before .before .before .before .before .before .before .before .before .before .before .before .running .ensures (machineOf (x .n) t) (lent-rows (x .n) r t good) in
-    let e = event (x .kind) (x .who) (x .a) (x .b) (x .k) in
-    let right = c .before .before .before .before .before .before .before .before .before .before .before .before .before .before .decide .ensures (machineOf (x .n) t) (lent-columns (x .n) r t good (x .who) (c .before .before .before .before .before .before .before .before .before .before .before .before .before .before .before .before .before .before .before .before .before .running .result) first) in
-    let d = c .before .before .before .before .before .before .before .before .before .before .before .before .before .before .decide .result in
-    (machineOf (x .n) t, carriable (x .n) r t good e d right)
+    let k = at.carry-out-requires c in
+    let s = k .start in
+    (machine s, carriable (passed s) (asked s) (right (k .after-decide)))
 
 settle-requires : tie.Need-settle-requires
 settle-requires c κs =
-    let x = c .before .before .before .before .before .before .before .before .before .before .before .before .before .before .before .before .before .before .before .before .before .before .before .before .before .before .before .before .before .before .before .before .before .before .before .before .before .before .before .before .before .before .before .before .before .before .before .before .before .before .before .before .before .before .before .before .before .before .before .before .before .before .before .args in
-    let r = lentRecord (x .masks .now) (x .tallies .now) (x .words .now) (x .levels .now) in
-    let t = lent (x .state .now) (x .policy .now) (x .prio .now) (x .cpu .now) (x .slice .now) (x .mask .now) (x .rows .now) (x .counts .now) (x .flags .now) (x .log .now) in
-    let good = c .before .before .before .before .before .before .before .before .before .before .before .before .before .before .before .before .before .before .before .before .before .before .before .before .before .before .before .before .before .before .before .before .before .before .before .before .before .before .before .before .before .before .before .before .before .before .before .before .before .before .before .before .before .before .before .before .before .before .before .before .before .before .before .pre in
-    let first = c .before .before .before .before .before .before .before .before .before .before .before .before .before .before .before .before .before .before .before .before .before .before .before .before .before .before .before .before .before .before .before .before .before .before .before .before .before .before .before .before .before .before .before .before .before .before .before .before .before .before .running .ensures (machineOf (x .n) t) (lent-rows (x .n) r t good) in
-    let e = event (x .kind) (x .who) (x .a) (x .b) (x .k) in
-    let right = c .before .before .before .before .before .before .before .before .before .before .before .before .before .before .before .before .before .before .before .before .before .before .before .before .before .before .before .before .before .before .before .before .before .before .before .before .before .before .before .before .before .before .before .decide .ensures (machineOf (x .n) t) (lent-columns (x .n) r t good (x .who) (c .before .before .before .before .before .before .before .before .before .before .before .before .before .before .before .before .before .before .before .before .before .before .before .before .before .before .before .before .before .before .before .before .before .before .before .before .before .before .before .before .before .before .before .before .before .before .before .before .before .before .running .result) first) in
-    let d = c .before .before .before .before .before .before .before .before .before .before .before .before .before .before .before .before .before .before .before .before .before .before .before .before .before .before .before .before .before .before .before .before .before .before .before .before .before .before .before .before .before .before .before .decide .result in
-    let z = not-refused d (c .before .before .before .before .before .before .before .before .before .before .before .before .before .before .before .before .before .before .before .before .before .before .before .before .before .before .before .before .before .before .before .before .before .before .before .before .before .before .before .before .before .before .match .keys2) in
-    let o = c .before .before .before .before .before .before .before .before .before .before .before .before .before .before .before .before .before .before .before .before .before .before .before .before .before .before .before .before .carry-out in
-    let u = lent (o .last .0) (o .last .1 .0) (o .last .1 .1 .0) (o .last .1 .1 .1 .0) (o .last .1 .1 .1 .1 .0) (o .last .1 .1 .1 .1 .1 .0) (o .last .1 .1 .1 .1 .1 .1 .0) (o .last .1 .1 .1 .1 .1 .1 .1 .0) (o .last .1 .1 .1 .1 .1 .1 .1 .1 .0) (x .log .now) in
-    let v = lentRecord (o .last .1 .1 .1 .1 .1 .1 .1 .1 .1 .0) (o .last .1 .1 .1 .1 .1 .1 .1 .1 .1 .1 .0) (o .last .1 .1 .1 .1 .1 .1 .1 .1 .1 .1 .1 .0) (o .last .1 .1 .1 .1 .1 .1 .1 .1 .1 .1 .1 .1 .0) in
-    let done = o .ensures (machineOf (x .n) t) (carriable (x .n) r t good e d right) in (
-      (effect e (machineOf (x .n) t), (start-settling (x .n) r t good e d right z u v refl done, start-cpus (x .n) r t good e d right z u v refl done)),
-      log-long (x .n) r t good e d right z u v refl done,
-    )
+    let k = at.settle-requires c in
+    let h = carried (k .after-carry-out) in
+    ((effect (asked (k .start)) (machine (k .start)), (start-settling h, start-cpus h)), log-long h)
 
-cast-t80 : tie.Need-cast-t80
-cast-t80 c =
-    let x = c .before .before .before .before .before .before .before .before .before .before .before .before .before .before .before .before .before .before .before .before .before .before .before .before .before .before .before .before .before .before .before .before .before .before .before .before .before .before .before .before .before .before .before .before .before .before .before .before .before .before .before .before .before .before .before .before .before .before .before .before .before .before .before .before .before .before .before .before .before .before .before .before .args in
-    let r = lentRecord (x .masks .now) (x .tallies .now) (x .words .now) (x .levels .now) in
-    let t = lent (x .state .now) (x .policy .now) (x .prio .now) (x .cpu .now) (x .slice .now) (x .mask .now) (x .rows .now) (x .counts .now) (x .flags .now) (x .log .now) in
-    let good = c .before .before .before .before .before .before .before .before .before .before .before .before .before .before .before .before .before .before .before .before .before .before .before .before .before .before .before .before .before .before .before .before .before .before .before .before .before .before .before .before .before .before .before .before .before .before .before .before .before .before .before .before .before .before .before .before .before .before .before .before .before .before .before .before .before .before .before .before .before .before .before .before .pre in
-    let first = c .before .before .before .before .before .before .before .before .before .before .before .before .before .before .before .before .before .before .before .before .before .before .before .before .before .before .before .before .before .before .before .before .before .before .before .before .before .before .before .before .before .before .before .before .before .before .before .before .before .before .before .before .before .before .before .before .before .before .before .running .ensures (machineOf (x .n) t) (lent-rows (x .n) r t good) in
-    let e = event (x .kind) (x .who) (x .a) (x .b) (x .k) in
-    let right = c .before .before .before .before .before .before .before .before .before .before .before .before .before .before .before .before .before .before .before .before .before .before .before .before .before .before .before .before .before .before .before .before .before .before .before .before .before .before .before .before .before .before .before .before .before .before .before .before .before .before .before .before .decide .ensures (machineOf (x .n) t) (lent-columns (x .n) r t good (x .who) (c .before .before .before .before .before .before .before .before .before .before .before .before .before .before .before .before .before .before .before .before .before .before .before .before .before .before .before .before .before .before .before .before .before .before .before .before .before .before .before .before .before .before .before .before .before .before .before .before .before .before .before .before .before .before .before .before .before .before .before .running .result) first) in
-    let d = c .before .before .before .before .before .before .before .before .before .before .before .before .before .before .before .before .before .before .before .before .before .before .before .before .before .before .before .before .before .before .before .before .before .before .before .before .before .before .before .before .before .before .before .before .before .before .before .before .before .before .before .before .decide .result in
-    let z = not-refused d (c .before .before .before .before .before .before .before .before .before .before .before .before .before .before .before .before .before .before .before .before .before .before .before .before .before .before .before .before .before .before .before .before .before .before .before .before .before .before .before .before .before .before .before .before .before .before .before .before .before .before .before .match .keys2) in
-    let o = c .before .before .before .before .before .before .before .before .before .before .before .before .before .before .before .before .before .before .before .before .before .before .before .before .before .before .before .before .before .before .before .before .before .before .before .before .before .carry-out in
-    let u = lent (o .last .0) (o .last .1 .0) (o .last .1 .1 .0) (o .last .1 .1 .1 .0) (o .last .1 .1 .1 .1 .0) (o .last .1 .1 .1 .1 .1 .0) (o .last .1 .1 .1 .1 .1 .1 .0) (o .last .1 .1 .1 .1 .1 .1 .1 .0) (o .last .1 .1 .1 .1 .1 .1 .1 .1 .0) (x .log .now) in
-    let v = lentRecord (o .last .1 .1 .1 .1 .1 .1 .1 .1 .1 .0) (o .last .1 .1 .1 .1 .1 .1 .1 .1 .1 .1 .0) (o .last .1 .1 .1 .1 .1 .1 .1 .1 .1 .1 .1 .0) (o .last .1 .1 .1 .1 .1 .1 .1 .1 .1 .1 .1 .1 .0) in
-    let done = o .ensures (machineOf (x .n) t) (carriable (x .n) r t good e d right) in
-    let s = c .before .before .before .before .before .before .before .before .settle in
-    let w = lentRecord (s .last .1 .1 .1 .1 .1 .1 .1 .0) (s .last .1 .1 .1 .1 .1 .1 .1 .1 .0) (s .last .1 .1 .1 .1 .1 .1 .1 .1 .1 .0) (s .last .1 .1 .1 .1 .1 .1 .1 .1 .1 .1 .0) in
-    let ended = s .ensures (effect e (machineOf (x .n) t)) (start-settling (x .n) r t good e d right z u v refl done) (start-cpus (x .n) r t good e d right z u v refl done) in
-    let few = taken-few (x .n) r t good e d right z u v refl done (s .last .1 .1 .0) (s .last .1 .1 .1 .1 .1 .0) (s .last .1 .1 .1 .1 .0) (s .last .1 .1 .1 .1 .1 .1 .0) (s .result) w ended in
+cast : at.Need-cast
+cast c =
+    let k = at.cast c in
+    let h = carried (k .after-carry-out) in
+    let few = taken-few h (k .settle .ensures _ (start-settling h) (start-cpus h)) in
     omega arith
-
-same-length-9 : tie.Need-same-length-9
-same-length-9 c = c .before .before .before .before .before .before .before .before .before .before .before .before .before .before .before .before .before .before .before .before .before .before .before .before .before .before .before .before .before .before .before .before .before .before .before .before .before .carry-out .kept .0
-
-same-length-10 : tie.Need-same-length-10
-same-length-10 c = c .before .before .before .before .before .before .before .before .before .before .before .before .before .before .before .before .before .before .before .before .before .before .before .before .before .before .before .before .before .before .before .before .before .before .before .before .before .carry-out .kept .1 .0
-
-same-length-11 : tie.Need-same-length-11
-same-length-11 c = c .before .before .before .before .before .before .before .before .before .before .before .before .before .before .before .before .before .before .before .before .before .before .before .before .before .before .before .before .before .before .before .before .before .before .before .before .before .carry-out .kept .1 .1 .0
-
-same-length-12 : tie.Need-same-length-12
-same-length-12 c = c .before .before .before .before .before .before .before .before .settle .kept .1 .1 .0 ∙ c .before .before .before .before .before .before .before .before .before .before .before .before .before .before .before .before .before .before .before .before .before .before .before .before .before .before .before .before .before .before .before .before .before .before .before .before .before .carry-out .kept .1 .1 .1 .0
-
-same-length-13 : tie.Need-same-length-13
-same-length-13 c = c .before .before .before .before .before .before .before .before .before .before .before .before .before .before .before .before .before .before .before .before .before .before .before .before .before .before .before .before .before .before .before .before .before .before .before .before .before .carry-out .kept .1 .1 .1 .1 .0
-
-same-length-14 : tie.Need-same-length-14
-same-length-14 c = c .before .before .before .before .before .before .before .before .before .before .before .before .before .before .before .before .before .before .before .before .before .before .before .before .before .before .before .before .before .before .before .before .before .before .before .before .before .carry-out .kept .1 .1 .1 .1 .1 .0
-
-same-length-15 : tie.Need-same-length-15
-same-length-15 c = c .before .before .before .before .before .before .before .before .settle .kept .1 .1 .1 .1 .0 ∙ c .before .before .before .before .before .before .before .before .before .before .before .before .before .before .before .before .before .before .before .before .before .before .before .before .before .before .before .before .before .before .before .before .before .before .before .before .before .carry-out .kept .1 .1 .1 .1 .1 .1 .0
-
-same-length-16 : tie.Need-same-length-16
-same-length-16 c = c .before .before .before .before .before .before .before .before .settle .kept .1 .1 .1 .1 .1 .0 ∙ c .before .before .before .before .before .before .before .before .before .before .before .before .before .before .before .before .before .before .before .before .before .before .before .before .before .before .before .before .before .before .before .before .before .before .before .before .before .carry-out .kept .1 .1 .1 .1 .1 .1 .1 .0
-
-same-length-17 : tie.Need-same-length-17
-same-length-17 c = c .before .before .before .before .before .before .before .before .before .before .before .before .before .before .before .before .before .before .before .before .before .before .before .before .before .before .before .before .before .before .before .before .before .before .before .before .before .carry-out .kept .1 .1 .1 .1 .1 .1 .1 .1 .0
-
-same-length-18 : tie.Need-same-length-18
-same-length-18 c = c .before .before .before .before .before .before .before .before .settle .kept .1 .1 .1 .1 .1 .1 .0
 
 returns-2 : tie.Need-returns-2
 returns-2 c =
-    let x = c .before .before .before .before .before .before .before .before .before .before .before .before .before .before .before .before .before .before .before .before .before .before .before .before .before .before .before .before .before .before .before .before .before .before .before .before .before .before .before .before .before .before .before .before .before .before .before .before .before .before .before .before .before .before .before .before .before .before .before .before .before .before .before .before .before .before .before .before .before .before .before .before .args in
-    let r = lentRecord (x .masks .now) (x .tallies .now) (x .words .now) (x .levels .now) in
-    let t = lent (x .state .now) (x .policy .now) (x .prio .now) (x .cpu .now) (x .slice .now) (x .mask .now) (x .rows .now) (x .counts .now) (x .flags .now) (x .log .now) in
-    let good = c .before .before .before .before .before .before .before .before .before .before .before .before .before .before .before .before .before .before .before .before .before .before .before .before .before .before .before .before .before .before .before .before .before .before .before .before .before .before .before .before .before .before .before .before .before .before .before .before .before .before .before .before .before .before .before .before .before .before .before .before .before .before .before .before .before .before .before .before .before .before .before .before .pre in
-    let first = c .before .before .before .before .before .before .before .before .before .before .before .before .before .before .before .before .before .before .before .before .before .before .before .before .before .before .before .before .before .before .before .before .before .before .before .before .before .before .before .before .before .before .before .before .before .before .before .before .before .before .before .before .before .before .before .before .before .before .before .running .ensures (machineOf (x .n) t) (lent-rows (x .n) r t good) in
-    let e = event (x .kind) (x .who) (x .a) (x .b) (x .k) in
-    let right = c .before .before .before .before .before .before .before .before .before .before .before .before .before .before .before .before .before .before .before .before .before .before .before .before .before .before .before .before .before .before .before .before .before .before .before .before .before .before .before .before .before .before .before .before .before .before .before .before .before .before .before .before .decide .ensures (machineOf (x .n) t) (lent-columns (x .n) r t good (x .who) (c .before .before .before .before .before .before .before .before .before .before .before .before .before .before .before .before .before .before .before .before .before .before .before .before .before .before .before .before .before .before .before .before .before .before .before .before .before .before .before .before .before .before .before .before .before .before .before .before .before .before .before .before .before .before .before .before .before .before .before .running .result) first) in
-    let d = c .before .before .before .before .before .before .before .before .before .before .before .before .before .before .before .before .before .before .before .before .before .before .before .before .before .before .before .before .before .before .before .before .before .before .before .before .before .before .before .before .before .before .before .before .before .before .before .before .before .before .before .before .decide .result in
-    let z = not-refused d (c .before .before .before .before .before .before .before .before .before .before .before .before .before .before .before .before .before .before .before .before .before .before .before .before .before .before .before .before .before .before .before .before .before .before .before .before .before .before .before .before .before .before .before .before .before .before .before .before .before .before .before .match .keys2) in
-    let o = c .before .before .before .before .before .before .before .before .before .before .before .before .before .before .before .before .before .before .before .before .before .before .before .before .before .before .before .before .before .before .before .before .before .before .before .before .before .carry-out in
-    let u = lent (o .last .0) (o .last .1 .0) (o .last .1 .1 .0) (o .last .1 .1 .1 .0) (o .last .1 .1 .1 .1 .0) (o .last .1 .1 .1 .1 .1 .0) (o .last .1 .1 .1 .1 .1 .1 .0) (o .last .1 .1 .1 .1 .1 .1 .1 .0) (o .last .1 .1 .1 .1 .1 .1 .1 .1 .0) (x .log .now) in
-    let v = lentRecord (o .last .1 .1 .1 .1 .1 .1 .1 .1 .1 .0) (o .last .1 .1 .1 .1 .1 .1 .1 .1 .1 .1 .0) (o .last .1 .1 .1 .1 .1 .1 .1 .1 .1 .1 .1 .0) (o .last .1 .1 .1 .1 .1 .1 .1 .1 .1 .1 .1 .1 .0) in
-    let done = o .ensures (machineOf (x .n) t) (carriable (x .n) r t good e d right) in
-    let s = c .before .before .before .before .before .before .before .before .settle in
-    let w = lentRecord (s .last .1 .1 .1 .1 .1 .1 .1 .0) (s .last .1 .1 .1 .1 .1 .1 .1 .1 .0) (s .last .1 .1 .1 .1 .1 .1 .1 .1 .1 .0) (s .last .1 .1 .1 .1 .1 .1 .1 .1 .1 .1 .0) in
-    let ended = s .ensures (effect e (machineOf (x .n) t)) (start-settling (x .n) r t good e d right z u v refl done) (start-cpus (x .n) r t good e d right z u v refl done) in
-    taken-result (x .n) r t good e d right z u v refl done (s .last .1 .1 .0) (s .last .1 .1 .1 .1 .1 .0) (s .last .1 .1 .1 .1 .0) (s .last .1 .1 .1 .1 .1 .1 .0) (s .result) w ended
+    let k = at.returns-2 c in
+    let h = carried (k .after-carry-out) in
+    taken-result h (k .settle .ensures _ (start-settling h) (start-cpus h))
 
 pub handle-spec : {M : Type 1} → statement M
 handle-spec =
-    tie.close
-    (tie.spec
-    running-requires
-    decide-requires
-    enum-known-decision
-    same-length
-    same-length-2
-    same-length-3
-    same-length-4
-    same-length-5
-    same-length-6
-    same-length-7
-    same-length-8
-    returns
-    carry-out-requires
-    settle-requires
-    cast-t80
-    same-length-9
-    same-length-10
-    same-length-11
-    same-length-12
-    same-length-13
-    same-length-14
-    same-length-15
-    same-length-16
-    same-length-17
-    same-length-18
-    returns-2)
+    at.close subject-requires decide-requires enum-known-decision returns carry-out-requires settle-requires cast returns-2
