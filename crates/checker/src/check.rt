@@ -7,7 +7,8 @@ ghost use Rattle.rules.specs.Machine.{taskPlaces};
 ghost use Rattle.rules.specs.WellFormed.{Shape};
 ghost use Rattle.rules.specs.Tables.{machineOf, tablesFit};
 ghost use Rattle.rules.specs.Entry.{checked};
-ghost use Rattle.checker.specs.Lent.{lent};
+ghost use Rattle.bits.specs.Moments.{old};
+ghost use Rattle.checker.specs.Lent.{lent, oldTables};
 use super::sizes::lengths_fit;
 use cpupri::consistent::is_consistent;
 use cpupri::record::Record;
@@ -33,7 +34,7 @@ pub fn check(
     log: &[u16],
     record: Record,
 ) -> u8
-    ensures { λ a. ⌜ a ≡ checked n «record» (lent (now (state .entry)) (now (policy .entry)) (now (prio .entry)) (now (cpu .entry)) (now (slice .entry)) (now (mask .entry)) (now (rows .entry)) (now (counts .entry)) (now (flags .entry)) (now (log .entry))) ⌝ }
+    ensures { λ a. ⌜ a ≡ checked n «record» (oldTables state policy prio cpu slice mask rows counts flags log) ⌝ }
 {
     if !lengths_fit(
         n,
@@ -82,10 +83,12 @@ pub fn tables_fit(
     flags: &[u8],
     record: Record,
 ) -> bool
-    requires { ⌜ Shape (machineOf n (lent (now state) (now policy) (now prio) (now cpu) (now slice) (now mask) (now rows) (now counts) (now flags) [])) ⌝ }
+    requires { ⌜ Shape (machineOf n (lent (now state) (now policy) (now prio) (now cpu) (now slice) (now mask)
+        (now rows) (now counts) (now flags) [])) ⌝ }
     requires { ⌜ length (now rows) ≡ taskPlaces * n ⌝ }
     requires { ⌜ length (now counts) ≡ n ⌝ }
-    ensures { λ b. ⌜ b ≡ tablesFit n «record» (lent (now (state .entry)) (now (policy .entry)) (now (prio .entry)) (now (cpu .entry)) (now (slice .entry)) (now (mask .entry)) (now (rows .entry)) (now (counts .entry)) (now (flags .entry)) []) ⌝ }
+    ensures { λ b. ⌜ b ≡ tablesFit n «record» (lent (old state) (old policy) (old prio) (old cpu) (old slice) (old mask)
+        (old rows) (old counts) (old flags) []) ⌝ }
 {
     let levels = record.levels;
     let placed = rows_fit(n, state, prio, cpu, rows, counts, flags, levels);

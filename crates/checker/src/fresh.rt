@@ -1,7 +1,7 @@
 // A fresh machine in lent tables.
 ghost use mathlib.Core.Path.{_≡_};
 ghost use Rattle.rules.specs.Entry.{kept, made};
-ghost use Rattle.checker.specs.Lent.{lent};
+ghost use Rattle.checker.specs.Lent.{oldTables, newTables};
 use super::sizes::lengths_fit;
 use blank::empty_rows;
 use blank::fill::fill_u16;
@@ -33,7 +33,9 @@ pub fn make_fresh(
     log: &mut [u16],
     record: Record,
 ) -> Made
-    ensures { λ m. ⌜ kept (m .answer) (m .«record») (lent (now (state .exit)) (now (policy .exit)) (now (prio .exit)) (now (cpu .exit)) (now (slice .exit)) (now (mask .exit)) (now (rows .exit)) (now (counts .exit)) (now (flags .exit)) (now (log .exit))) ≡ made n «record» (lent (now (state .entry)) (now (policy .entry)) (now (prio .entry)) (now (cpu .entry)) (now (slice .entry)) (now (mask .entry)) (now (rows .entry)) (now (counts .entry)) (now (flags .entry)) (now (log .entry))) ⌝ }
+    ensures { λ m. let s = oldTables state policy prio cpu slice mask rows counts flags log in
+        let t = newTables state policy prio cpu slice mask rows counts flags log in
+        ⌜ kept (m .answer) (m .«record») t ≡ made n «record» s ⌝ }
 {
     if !lengths_fit(
         n,

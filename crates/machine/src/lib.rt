@@ -2,11 +2,10 @@
 // migration steps until none applies. What comes after the checks is crate `handling`.
 ghost use mathlib.Core.Path.{_≡_};
 ghost use Rattle.rules.specs.Entry.{result, checked, handled};
-ghost use Rattle.rules.specs.Events.{effect};
+ghost use Rattle.rules.specs.Events.{effect, event as numbers};
 ghost use Rattle.rules.specs.LentDemand3.{LentDemand3};
 ghost use Rattle.rules.specs.Tables.{machineOf};
-ghost use Rattle.checker.specs.Lent.{lent};
-ghost use Rattle.rules.specs.Events.{event as numbers};
+ghost use Rattle.checker.specs.Lent.{oldTables, newTables};
 use cpupri::record::Record;
 pub use handling::handle;
 
@@ -38,9 +37,12 @@ pub fn event(
     k: u64,
     record: Record,
 ) -> Outcome
-    ensures { λ o. ⌜ result (o .answer) (o .moves) (o .«record») (lent (now (state .exit)) (now (policy .exit)) (now (prio .exit)) (now (cpu .exit)) (now (slice .exit)) (now (mask .exit)) (now (rows .exit)) (now (counts .exit)) (now (flags .exit)) (now (log .exit))) ≡ handled n «record» (lent (now (state .entry)) (now (policy .entry)) (now (prio .entry)) (now (cpu .entry)) (now (slice .entry)) (now (mask .entry)) (now (rows .entry)) (now (counts .entry)) (now (flags .entry)) (now (log .entry))) (numbers kind who a b k) ⌝ }
-    ensures { λ o. ⌜ (o .answer ≡ 0 → LentDemand3 n (o .moves) (effect (numbers kind who a b k) (machineOf n (lent (now (state .entry)) (now (policy .entry)) (now (prio .entry)) (now (cpu .entry)) (now (slice .entry)) (now (mask .entry)) (now (rows .entry)) (now (counts .entry)) (now (flags .entry)) (now (log .entry))))) (lent (now (state .exit)) (now (policy .exit)) (now (prio .exit)) (now (cpu .exit)) (now (slice .exit)) (now (mask .exit)) (now (rows .exit)) (now (counts .exit)) (now (flags .exit)) (now (log .exit)))) ⌝ }
-    ensures { λ o. ⌜ (o .answer ≡ 0 → checked n (o .«record») (lent (now (state .exit)) (now (policy .exit)) (now (prio .exit)) (now (cpu .exit)) (now (slice .exit)) (now (mask .exit)) (now (rows .exit)) (now (counts .exit)) (now (flags .exit)) (now (log .exit))) ≡ 0) ⌝ }
+    ensures { λ o. let s = oldTables state policy prio cpu slice mask rows counts flags log in
+        let t = newTables state policy prio cpu slice mask rows counts flags log in
+        let e = numbers kind who a b k in
+        ⌜ result (o .answer) (o .moves) (o .«record») t ≡ handled n «record» s e ⌝
+        ∗ ⌜ (o .answer ≡ 0 → LentDemand3 n (o .moves) (effect e (machineOf n s)) t) ⌝
+        ∗ ⌜ (o .answer ≡ 0 → checked n (o .«record») t ≡ 0) ⌝ }
 {
     let number = checker::check::check(
         n,

@@ -1,13 +1,24 @@
--- `checker::check::check` meets its contract. Assumes nothing.
+-- `checker::check::check` meets its contract.
+-- Assumes nothing.
 use borrow.Author.Needs.{needs}
 use mathlib.Core.Path.{sym, _∙_}
 use mathlib.Core.Bool.{true, false}
 use borrow.Author.Tests.{not-true, not-false}
-use Rattle.checker.specs.Lent.{lent, sizesFit}
+use Rattle.checker.specs.Lent.{nowTables, sizesFit}
+use Rattle.rules.specs.Tables.{Tables}
 use Rattle.rules.proofs.Entry.{lengths-shape}
 use Rattle.checker.proofs.Answers.{checked-size, checked-form}
 use Rattle.checker.proofs.check.check.Statement.{statement}
 use Rattle.checker.proofs.check.check.Tie as tie
+use Rattle.checker.proofs.check.check.Proof.Paths as at
+mod Paths
+
+-- what the caller lent
+module _ (c : tie.Start) where
+  abbrev tables : Tables
+  tables =
+      let x = c .args in
+      nowTables (x .state) (x .policy) (x .prio) (x .cpu) (x .slice) (x .mask) (x .rows) (x .counts) (x .flags) (x .log)
 
 lengths-fit-requires : tie.Need-lengths-fit-requires
 lengths-fit-requires c κs = search needs
@@ -15,32 +26,37 @@ lengths-fit-requires c κs = search needs
 returns : tie.Need-returns
 unfolding sizesFit
 returns c =
-    let a = c .before .before .before .before .before .before .before .before .before .before .before .before .args in
-    sym (checked-size (a .n) (a .«record») (lent (a .state .now) (a .policy .now) (a .prio .now) (a .cpu .now) (a .slice .now) (a .mask .now) (a .rows .now) (a .counts .now) (a .flags .now) (a .log .now)) (sym (c .before .lengths-fit .ensures) ∙ not-true (c .before .lengths-fit .result) (c .if1 .taken)))
+    let k = at.returns c in
+    let f = k .lengths-fit in
+    sym (checked-size (k .args .n) (k .args .«record») (tables (k .start)) (sym (f .ensures) ∙ not-true (f .result) (k .if1 .taken)))
 
 tables-fit-requires : tie.Need-tables-fit-requires
 unfolding sizesFit
 tables-fit-requires c κs =
-    let a = c .before .before .before .before .before .before .before .before .before .before .before .before .args in
-    let l = lengths-shape (a .n) (lent (a .state .now) (a .policy .now) (a .prio .now) (a .cpu .now) (a .slice .now) (a .mask .now) (a .rows .now) (a .counts .now) (a .flags .now) (a .log .now)) (sym (c .before .lengths-fit .ensures) ∙ not-false (c .before .lengths-fit .result) (c .if1 .left)) in
+    let k = at.tables-fit-requires c in
+    let f = k .lengths-fit in
+    let l = lengths-shape (k .args .n) (tables (k .start)) (sym (f .ensures) ∙ not-false (f .result) (k .if1 .left)) in
     (l .0, (l .1, l .2))
 
 returns-2 : tie.Need-returns-2
 unfolding sizesFit
 returns-2 c =
-    let a = c .before .before .before .before .before .before .before .before .before .before .before .before .before .before .args in
+    let k = at.returns-2 c in
+    let f = k .lengths-fit in
+    let g = k .tables-fit in
     sym
-    (checked-form (a .n) (a .«record») (lent (a .state .now) (a .policy .now) (a .prio .now) (a .cpu .now) (a .slice .now) (a .mask .now) (a .rows .now) (a .counts .now) (a .flags .now) (a .log .now)) (sym (c .before .before .before .lengths-fit .ensures) ∙ not-false (c .before .before .before .lengths-fit .result) (c .before .before .if1 .left)) false
-    (sym (c .before .tables-fit .ensures) ∙ not-true (c .before .tables-fit .result) (c .if2 .taken)))
+    (checked-form (k .args .n) (k .args .«record») (tables (k .start)) (sym (f .ensures) ∙ not-false (f .result) (k .if1 .left)) false
+    (sym (g .ensures) ∙ not-true (g .result) (k .if2 .taken)))
 
 returns-3 : tie.Need-returns-3
 unfolding sizesFit
 returns-3 c =
-    let a = c .before .before .before .before .before .before .before .before .before .before .before .before .before .before .args in
+    let k = at.returns-3 c in
+    let f = k .lengths-fit in
+    let g = k .tables-fit in
     sym
-    (checked-form (a .n) (a .«record») (lent (a .state .now) (a .policy .now) (a .prio .now) (a .cpu .now) (a .slice .now) (a .mask .now) (a .rows .now) (a .counts .now) (a .flags .now) (a .log .now)) (sym (c .before .before .before .lengths-fit .ensures) ∙ not-false (c .before .before .before .lengths-fit .result) (c .before .before .if1 .left)) true
-    (sym (c .before .tables-fit .ensures) ∙ not-false (c .before .tables-fit .result) (c .if2 .left)))
+    (checked-form (k .args .n) (k .args .«record») (tables (k .start)) (sym (f .ensures) ∙ not-false (f .result) (k .if1 .left)) true
+    (sym (g .ensures) ∙ not-false (g .result) (k .if2 .left)))
 
 pub check-spec : {M : Type 1} → statement M
-check-spec =
-    tie.close (tie.spec lengths-fit-requires returns tables-fit-requires returns-2 returns-3)
+check-spec = at.close lengths-fit-requires returns tables-fit-requires returns-2 returns-3

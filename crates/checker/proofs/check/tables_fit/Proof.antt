@@ -1,4 +1,5 @@
--- `checker::check::tables_fit` meets its contract. Assumes nothing.
+-- `checker::check::tables_fit` meets its contract.
+-- Assumes nothing.
 use borrow.Author.Needs.{needs}
 use mathlib.Core.Path.{_≡_, sym, _∙_}
 use mathlib.Core.Bool.{true, _&&_}
@@ -10,12 +11,14 @@ use borrow.Author.Tests.{not-true, not-false}
 use Rattle.bits.proofs.Tests.{and-both, fails}
 use Rattle.rules.proofs.Bools.{both}
 use Rattle.cpupri.specs.Consistent.{Sized}
-use Rattle.rules.specs.Tables.{tablesFit}
+use Rattle.rules.specs.Tables.{Tables, tablesFit}
 use Rattle.checker.specs.Lent.{lent}
 use Rattle.rowcheck.proofs.Saying.{yes, no, said}
 use Rattle.wellformed.proofs.Whole.{decides, passes-fit, fit-rows, fit-columns, fit-consistent}
 use Rattle.checker.proofs.check.tables_fit.Statement.{statement}
 use Rattle.checker.proofs.check.tables_fit.Tie as tie
+use Rattle.checker.proofs.check.tables_fit.Proof.Paths as at
+mod Paths
 
 sized : (c : tie.Start) → Sized (c .args .t11)
 sized c = record {
@@ -27,35 +30,44 @@ sized c = record {
   word = λ i. let f : Fits w64 (getD (c .args .t11 .words) i 0) = search needs in f .fits;
 }
 
+-- what the caller lent
+module _ (c : tie.Start) where
+  abbrev tables : Tables
+  tables =
+      let x = c .args in
+      lent (x .state .now) (x .policy .now) (x .prio .now) (x .cpu .now) (x .slice .now) (x .mask .now) (x .rows .now) (x .counts .now) (x .flags .now) []
+
 rows-fit-requires : tie.Need-rows-fit-requires
 rows-fit-requires c κs = search needs
 
 returns : tie.Need-returns
 returns c =
-    let a = c .before .before .before .before .before .before .before .before .before .before .before .before .before .args in
-    let p = c .before .before .before .before .before .before .before .before .before .before .before .before .before .pre in
-    let s = (lent (a .state .now) (a .policy .now) (a .prio .now) (a .cpu .now) (a .slice .now) (a .mask .now) (a .rows .now) (a .counts .now) (a .flags .now) []) in
-    let rows = c .before .before .rows-fit in
+    let k = at.returns c in
+    let a = k .args in
+    let p = k .pre in
+    let s = tables (k .start) in
+    let rows = k .rows-fit in
     sym
     (fails (tablesFit (a .n) (a .t11) s)
-    (λ e. no (rows .result .fit) (rows .ensures .0) (not-true (rows .result .fit) (c .if1 .taken)) (fit-rows (a .n) s (p .0) (p .1 .0) (p .1 .1) (a .t11) e)))
+    (λ e. no (rows .result .fit) (rows .ensures .0) (not-true (rows .result .fit) (k .if1 .taken)) (fit-rows (a .n) s (p .0) (p .1 .0) (p .1 .1) (a .t11) e)))
 
 is-consistent-requires : tie.Need-is-consistent-requires
-is-consistent-requires c κs = sized (c .before .before .before .before .before .before .before .before .before .before .before .before .before .before .before .before .before .before .before)
+is-consistent-requires c κs = sized (at.is-consistent-requires c .start)
 
 columns-fit-requires : tie.Need-columns-fit-requires
 columns-fit-requires c κs = search needs
 
 returns-2 : tie.Need-returns-2
 returns-2 c =
-    let a = c .before .before .before .before .before .before .before .before .before .before .before .before .before .before .before .before .before .before .before .before .before .before .args in
-    let p = c .before .before .before .before .before .before .before .before .before .before .before .before .before .before .before .before .before .before .before .before .before .before .pre in
-    let s = (lent (a .state .now) (a .policy .now) (a .prio .now) (a .cpu .now) (a .slice .now) (a .mask .now) (a .rows .now) (a .counts .now) (a .flags .now) []) in
-    let rows = c .before .before .before .before .before .before .before .before .before .before .before .rows-fit in
-    let columns = c .columns-fit in
-    let own = c .before .before .is-consistent in
-    let fit : rows .result .fit ≡ true = not-false (rows .result .fit) (c .before .before .before .before .before .before .before .before .before .if1 .left) in
-    let levelled : length (a .t11 .levels) ≡ 64 = sized (c .before .before .before .before .before .before .before .before .before .before .before .before .before .before .before .before .before .before .before .before .before .before) .levels in
+    let k = at.returns-2 c in
+    let a = k .args in
+    let p = k .pre in
+    let s = tables (k .start) in
+    let rows = k .rows-fit in
+    let columns = k .columns-fit in
+    let own = k .is-consistent in
+    let fit : rows .result .fit ≡ true = not-false (rows .result .fit) (k .if1 .left) in
+    let levelled : length (a .t11 .levels) ≡ 64 = sized (k .start) .levels in
     decides (columns .result && own .result) (tablesFit (a .n) (a .t11) s)
     (λ e.
     let b = both (columns .result) (own .result) e in
@@ -67,6 +79,4 @@ returns-2 c =
     (own .ensures ∙ fit-consistent (a .n) s (p .0) (p .1 .0) (p .1 .1) (a .t11) e))
 
 pub tables-fit-spec : {M : Type 1} → statement M
-tables-fit-spec =
-    tie.close
-    (tie.spec rows-fit-requires returns is-consistent-requires columns-fit-requires returns-2)
+tables-fit-spec = at.close rows-fit-requires returns is-consistent-requires columns-fit-requires returns-2

@@ -6,16 +6,25 @@ use native.Mathlib.Omega.{arith}
 use borrow.Author.Tests.{not-true, not-false}
 use lib.Dec.{eqb, leb, ltb}
 use Rattle.cpupri.specs.Found.{sizeFits}
+use Rattle.rules.specs.Machine.{taskPlaces}
+use Rattle.rules.specs.Tables.{logPlaces}
 use Rattle.rules.proofs.Test.{size-good}
 use Rattle.checker.specs.Lent.{sizesFit}
 use Rattle.checker.proofs.sizes.lengths_fit.Statement.{statement}
 use Rattle.checker.proofs.sizes.lengths_fit.Tie as tie
 
+-- the tests behind that of N
+abbrev others : tie.Start → Bool → Bool
+others c b =
+    let a = c .args in
+    b && eqb (a .state) taskPlaces && eqb (a .policy) taskPlaces && eqb (a .prio) taskPlaces && eqb (a .cpu) taskPlaces && eqb (a .slice) taskPlaces
+    && eqb (a .mask) taskPlaces && eqb (a .rows) (taskPlaces * a .n) && eqb (a .counts) (a .n) && eqb (a .flags) (a .n) && eqb (a .log) logPlaces
+
 returns : tie.Need-returns
 unfolding sizesFit sizeFits
 returns c =
     let a = c .before .args in
-    ap (λ (b : Bool). b && eqb (a .state) 512 && eqb (a .policy) 512 && eqb (a .prio) 512 && eqb (a .cpu) 512 && eqb (a .slice) 512 && eqb (a .mask) 512 && eqb (a .rows) (512 * a .n) && eqb (a .counts) (a .n) && eqb (a .flags) (a .n) && eqb (a .log) 189) (sym (not-true (ltb 0 (a .n) && leb (a .n) 64) (c .if1 .taken)))
+    ap (others (c .before)) (sym (not-true (ltb 0 (a .n) && leb (a .n) 64) (c .if1 .taken)))
 
 mul-result : tie.Need-mul-result
 unfolding sizeFits
@@ -28,7 +37,7 @@ returns-2 : tie.Need-returns-2
 unfolding sizesFit sizeFits
 returns-2 c =
     let a = c .before .args in
-    ap (λ (b : Bool). b && eqb (a .state) 512 && eqb (a .policy) 512 && eqb (a .prio) 512 && eqb (a .cpu) 512 && eqb (a .slice) 512 && eqb (a .mask) 512 && eqb (a .rows) (512 * a .n) && eqb (a .counts) (a .n) && eqb (a .flags) (a .n) && eqb (a .log) 189) (sym (not-false (ltb 0 (a .n) && leb (a .n) 64) (c .if1 .left)))
+    ap (others (c .before)) (sym (not-false (ltb 0 (a .n) && leb (a .n) 64) (c .if1 .left)))
 
 pub lengths-fit-spec : {M : Type 1} → statement M
 lengths-fit-spec = tie.close (tie.spec returns mul-result returns-2)
