@@ -1,11 +1,12 @@
 // The library's entries for C, and for what links like C. A slice is a pointer and a length; the record is
 // lent as its four tables and written back. Each entry checks all that it is lent.
 ghost use mathlib.Core.Path.{_≡_};
-ghost use Rattle.checker.specs.Lent.{lent};
+ghost use Rattle.bits.specs.Moments.{new};
+ghost use Rattle.levels.specs.Lent.{oldRecord, newRecord};
+ghost use Rattle.checker.specs.Lent.{oldTables, newTables};
 ghost use Rattle.rules.specs.Events.{effect, event as numbers};
 ghost use Rattle.rules.specs.LentDemand3.{LentDemand3};
 ghost use Rattle.rules.specs.Tables.{machineOf};
-ghost use Rattle.lentrecord.specs.Lent.{lentRecord};
 ghost use Rattle.rules.specs.Entry.{result};
 ghost use Rattle.lentrecord.specs.Entry.{made, checked, handled, found, answer};
 use cpupri::find::Found;
@@ -34,7 +35,11 @@ pub extern "C" fn qoriwesh_make_fresh(
     level_words: &mut [u64],
     levels: &mut [u8],
 ) -> u8
-    ensures { λ a. ⌜ result a 0 (lentRecord (now («level_masks» .exit)) (now («level_counts» .exit)) (now («level_words» .exit)) (now (levels .exit))) (lent (now (state .exit)) (now (policy .exit)) (now (prio .exit)) (now (cpu .exit)) (now (slice .exit)) (now (mask .exit)) (now (rows .exit)) (now (counts .exit)) (now (flags .exit)) (now (log .exit))) ≡ made n (lentRecord (now («level_masks» .entry)) (now («level_counts» .entry)) (now («level_words» .entry)) (now (levels .entry))) (lent (now (state .entry)) (now (policy .entry)) (now (prio .entry)) (now (cpu .entry)) (now (slice .entry)) (now (mask .entry)) (now (rows .entry)) (now (counts .entry)) (now (flags .entry)) (now (log .entry))) ⌝ }
+    ensures { λ a. let r = oldRecord «level_masks» «level_counts» «level_words» levels in
+        let q = newRecord «level_masks» «level_counts» «level_words» levels in
+        let s = oldTables state policy prio cpu slice mask rows counts flags log in
+        let t = newTables state policy prio cpu slice mask rows counts flags log in
+        ⌜ result a 0 q t ≡ made n r s ⌝ }
 {
     if !lengths_fit(
         level_masks.len(),
@@ -84,7 +89,8 @@ pub extern "C" fn qoriwesh_check(
     level_words: &[u64],
     levels: &[u8],
 ) -> u8
-    ensures { λ a. ⌜ a ≡ checked n (lentRecord (now («level_masks» .entry)) (now («level_counts» .entry)) (now («level_words» .entry)) (now (levels .entry))) (lent (now (state .entry)) (now (policy .entry)) (now (prio .entry)) (now (cpu .entry)) (now (slice .entry)) (now (mask .entry)) (now (rows .entry)) (now (counts .entry)) (now (flags .entry)) (now (log .entry))) ⌝ }
+    ensures { λ a. let r = oldRecord «level_masks» «level_counts» «level_words» levels in
+        ⌜ a ≡ checked n r (oldTables state policy prio cpu slice mask rows counts flags log) ⌝ }
 {
     if !lengths_fit(
         level_masks.len(),
@@ -137,9 +143,14 @@ pub extern "C" fn qoriwesh_event(
     k: u64,
     moves: &mut u32,
 ) -> u8
-    ensures { λ o. ⌜ result o (now (moves .exit)) (lentRecord (now («level_masks» .exit)) (now («level_counts» .exit)) (now («level_words» .exit)) (now (levels .exit))) (lent (now (state .exit)) (now (policy .exit)) (now (prio .exit)) (now (cpu .exit)) (now (slice .exit)) (now (mask .exit)) (now (rows .exit)) (now (counts .exit)) (now (flags .exit)) (now (log .exit))) ≡ handled n (lentRecord (now («level_masks» .entry)) (now («level_counts» .entry)) (now («level_words» .entry)) (now (levels .entry))) (lent (now (state .entry)) (now (policy .entry)) (now (prio .entry)) (now (cpu .entry)) (now (slice .entry)) (now (mask .entry)) (now (rows .entry)) (now (counts .entry)) (now (flags .entry)) (now (log .entry))) (numbers kind who a b k) ⌝ }
-    ensures { λ o. ⌜ (o ≡ 0 → LentDemand3 n (now (moves .exit)) (effect (numbers kind who a b k) (machineOf n (lent (now (state .entry)) (now (policy .entry)) (now (prio .entry)) (now (cpu .entry)) (now (slice .entry)) (now (mask .entry)) (now (rows .entry)) (now (counts .entry)) (now (flags .entry)) (now (log .entry))))) (lent (now (state .exit)) (now (policy .exit)) (now (prio .exit)) (now (cpu .exit)) (now (slice .exit)) (now (mask .exit)) (now (rows .exit)) (now (counts .exit)) (now (flags .exit)) (now (log .exit)))) ⌝ }
-    ensures { λ o. ⌜ (o ≡ 0 → checked n (lentRecord (now («level_masks» .exit)) (now («level_counts» .exit)) (now («level_words» .exit)) (now (levels .exit))) (lent (now (state .exit)) (now (policy .exit)) (now (prio .exit)) (now (cpu .exit)) (now (slice .exit)) (now (mask .exit)) (now (rows .exit)) (now (counts .exit)) (now (flags .exit)) (now (log .exit))) ≡ 0) ⌝ }
+    ensures { λ o. let r = oldRecord «level_masks» «level_counts» «level_words» levels in
+        let q = newRecord «level_masks» «level_counts» «level_words» levels in
+        let s = oldTables state policy prio cpu slice mask rows counts flags log in
+        let t = newTables state policy prio cpu slice mask rows counts flags log in
+        let e = numbers kind who a b k in
+        ⌜ result o (new moves) q t ≡ handled n r s e ⌝
+        ∗ ⌜ (o ≡ 0 → LentDemand3 n (new moves) (effect e (machineOf n s)) t) ⌝
+        ∗ ⌜ (o ≡ 0 → checked n q t ≡ 0) ⌝ }
 {
     *moves = 0;
     if !lengths_fit(
@@ -190,7 +201,8 @@ pub extern "C" fn qoriwesh_find(
     found_level: &mut u8,
     found_mask: &mut u64,
 ) -> u8
-    ensures { λ o. ⌜ answer o (now («found_level» .exit)) (now («found_mask» .exit)) ≡ found n (lentRecord (now («level_masks» .entry)) (now («level_counts» .entry)) (now («level_words» .entry)) (now (levels .entry))) level mask ⌝ }
+    ensures { λ o. let r = oldRecord «level_masks» «level_counts» «level_words» levels in
+        ⌜ answer o (new «found_level») (new «found_mask») ≡ found n r level mask ⌝ }
 {
     let invalid = Level::INVALID;
     *found_level = invalid.number;

@@ -1,10 +1,11 @@
 // The inner event for C: for measuring, and for a caller that keeps its tables to itself. It is no public entry: what it
 // requires, nothing checks.
 ghost use mathlib.Core.Path.{_≡_};
-ghost use Rattle.cpupri.specs.Record.{lentRecord};
+ghost use Rattle.bits.specs.Moments.{new};
+ghost use Rattle.levels.specs.Lent.{nowRecord, oldRecord, newRecord};
 ghost use Rattle.rules.specs.Entry.{result, checked, handled};
 ghost use Rattle.rules.specs.Events.{event as numbers};
-ghost use Rattle.checker.specs.Lent.{lent};
+ghost use Rattle.checker.specs.Lent.{nowTables, oldTables, newTables};
 use cpupri::record::CPUS;
 use cpupri::record::LEVELS;
 use cpupri::record::WORDS;
@@ -35,9 +36,14 @@ pub extern "C" fn qoriwesh_inner_event(
     k: u64,
     moves: &mut u32,
 ) -> u8
-    requires { ⌜ checked n (lentRecord (now masks) (now tallies) (now words) (now levels)) (lent (now state) (now policy) (now prio) (now cpu) (now slice) (now mask) (now rows) (now counts) (now flags) (now log)) ≡ 0 ⌝ }
-    ensures { λ o. ⌜ result o (now (moves .exit)) (lentRecord (now (masks .exit)) (now (tallies .exit)) (now (words .exit)) (now (levels .exit))) (lent (now (state .exit)) (now (policy .exit)) (now (prio .exit)) (now (cpu .exit)) (now (slice .exit)) (now (mask .exit)) (now (rows .exit)) (now (counts .exit)) (now (flags .exit)) (now (log .exit))) ≡ handled n (lentRecord (now (masks .entry)) (now (tallies .entry)) (now (words .entry)) (now (levels .entry))) (lent (now (state .entry)) (now (policy .entry)) (now (prio .entry)) (now (cpu .entry)) (now (slice .entry)) (now (mask .entry)) (now (rows .entry)) (now (counts .entry)) (now (flags .entry)) (now (log .entry))) (numbers kind who a b k) ⌝ }
-    ensures { λ o. ⌜ checked n (lentRecord (now (masks .exit)) (now (tallies .exit)) (now (words .exit)) (now (levels .exit))) (lent (now (state .exit)) (now (policy .exit)) (now (prio .exit)) (now (cpu .exit)) (now (slice .exit)) (now (mask .exit)) (now (rows .exit)) (now (counts .exit)) (now (flags .exit)) (now (log .exit))) ≡ 0 ⌝ }
+    requires { let r = nowRecord masks tallies words levels in
+        ⌜ checked n r (nowTables state policy prio cpu slice mask rows counts flags log) ≡ 0 ⌝ }
+    ensures { λ o. let r = oldRecord masks tallies words levels in
+        let q = newRecord masks tallies words levels in
+        let s = oldTables state policy prio cpu slice mask rows counts flags log in
+        let t = newTables state policy prio cpu slice mask rows counts flags log in
+        ⌜ result o (new moves) q t ≡ handled n r s (numbers kind who a b k) ⌝
+        ∗ ⌜ checked n q t ≡ 0 ⌝ }
 {
     let done = handling::handle(
         n,

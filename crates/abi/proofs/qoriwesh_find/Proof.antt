@@ -1,25 +1,35 @@
--- `abi::qoriwesh_find` meets its contract. Assumes nothing.
+-- `abi::qoriwesh_find` meets its contract.
+-- Assumes nothing.
 use borrow.Author.Needs.{needs}
 use mathlib.Core.Path.{sym, ap, _∙_}
 use borrow.Author.Tests.{not-true, not-false}
-use Rattle.lentrecord.specs.Lent.{lentRecord}
+use Rattle.levels.specs.Lent.{nowRecord}
+use Rattle.levels.specs.declared.record.Record.{Record}
 use Rattle.lentrecord.specs.Entry.{answer}
 use Rattle.cpupri.specs.Found.{answerOf}
 use Rattle.lentrecord.proofs.Entries.{found-unfit, found-fit}
 use Rattle.abi.proofs.qoriwesh_find.Statement.{statement}
 use Rattle.abi.proofs.qoriwesh_find.Tie as tie
+use Rattle.abi.proofs.qoriwesh_find.Proof.Paths as at
+mod Paths
+
+-- what the caller lent
+module _ (c : tie.Start) where
+  abbrev given : Record
+  given = let x = c .args in nowRecord (x .level-masks) (x .level-counts) (x .level-words) (x .levels)
 
 lengths-fit-requires : tie.Need-lengths-fit-requires
 lengths-fit-requires c κs = search needs
 
 returns : tie.Need-returns
 returns c =
-    let x = c .before .before .before .before .before .before .args in
-    let f = c .before .lengths-fit in
-    found-unfit (x .n) (lentRecord (x .level-masks .now) (x .level-counts .now) (x .level-words .now) (x .levels .now)) (x .level) (x .mask) (sym (f .ensures) ∙ not-true (f .result) (c .if1 .taken))
+    let k = at.returns c in
+    let x = k .args in
+    let f = k .lengths-fit in
+    found-unfit (x .n) (given (k .start)) (x .level) (x .mask) (sym (f .ensures) ∙ not-true (f .result) (k .if1 .taken))
 
 read-requires : tie.Need-read-requires
-read-requires c κs = (sym (c .before .lengths-fit .ensures) ∙ not-false (c .before .lengths-fit .result) (c .if1 .left))
+read-requires c κs = let k = at.read-requires c in let f = k .lengths-fit in sym (f .ensures) ∙ not-false (f .result) (k .if1 .left)
 
 find-requires : tie.Need-find-requires
 find-requires c κs = search needs
@@ -35,29 +45,36 @@ enum-known-number c = search needs
 
 returns-2 : tie.Need-returns-2
 returns-2 c =
-    let x = c .before .before .before .before .before .before .before .before .before .before .before .args in
-    let g = c .before .before .before .before .read in
-    let f = c .before .before .before .before .before .before .lengths-fit in
-    found-fit (x .n) (lentRecord (x .level-masks .now) (x .level-counts .now) (x .level-words .now) (x .levels .now)) (g .result) (x .level) (x .mask) (answer 0 (c .before .l .given .0 .0) (c .before .l .given .0 .1 .0)) (sym (f .ensures) ∙ not-false (f .result) (c .before .before .before .before .before .if1 .left)) (g .ensures) (sym (ap answerOf (c .before .l .given .1)) ∙ c .before .before .before .find .ensures)
+    let k = at.returns-2 c in
+    let x = k .args in
+    let f = k .lengths-fit in
+    let g = k .read in
+    let is = k .l .given in
+    found-fit (x .n) (given (k .start)) (g .result) (x .level) (x .mask) (answer 0 (is .0 .0) (is .0 .1 .0))
+    (sym (f .ensures) ∙ not-false (f .result) (k .if1 .left)) (g .ensures) (sym (ap answerOf (is .1)) ∙ k .find .ensures)
 
 returns-3 : tie.Need-returns-3
 returns-3 c =
-    let x = c .before .before .before .before .before .before .before .before .before .before .args in
-    let g = c .before .before .before .read in
-    let f = c .before .before .before .before .before .lengths-fit in
-    found-fit (x .n) (lentRecord (x .level-masks .now) (x .level-counts .now) (x .level-words .now) (x .levels .now)) (g .result) (x .level) (x .mask) (answer 0 255 0) (sym (f .ensures) ∙ not-false (f .result) (c .before .before .before .before .if1 .left)) (g .ensures) (sym (ap answerOf (c .enum-told .given .1)) ∙ c .before .before .find .ensures)
+    let k = at.returns-3 c in
+    let x = k .args in
+    let f = k .lengths-fit in
+    let g = k .read in
+    found-fit (x .n) (given (k .start)) (g .result) (x .level) (x .mask) (answer 0 255 0)
+    (sym (f .ensures) ∙ not-false (f .result) (k .if1 .left)) (g .ensures) (sym (ap answerOf (k .enum-told .given .1)) ∙ k .find .ensures)
 
 returns-4 : tie.Need-returns-4
 returns-4 c =
-    let x = c .before .before .before .before .before .before .before .before .before .before .before .args in
-    let g = c .before .before .before .before .read in
-    let f = c .before .before .before .before .before .before .lengths-fit in
-    found-fit (x .n) (lentRecord (x .level-masks .now) (x .level-counts .now) (x .level-words .now) (x .levels .now)) (g .result) (x .level) (x .mask) (answer (c .before .number .given .0 .0) 255 0) (sym (f .ensures) ∙ not-false (f .result) (c .before .before .before .before .before .if1 .left)) (g .ensures) (sym (ap answerOf (c .before .number .given .1)) ∙ c .before .before .before .find .ensures)
+    let k = at.returns-4 c in
+    let x = k .args in
+    let f = k .lengths-fit in
+    let g = k .read in
+    let is = k .number .given in
+    found-fit (x .n) (given (k .start)) (g .result) (x .level) (x .mask) (answer (is .0 .0) 255 0)
+    (sym (f .ensures) ∙ not-false (f .result) (k .if1 .left)) (g .ensures) (sym (ap answerOf (is .1)) ∙ k .find .ensures)
 
 pub qoriwesh-find-spec : {M : Type 1} → statement M
 qoriwesh-find-spec =
-    tie.close
-    (tie.spec
+    at.close
     lengths-fit-requires
     returns
     read-requires
@@ -67,4 +84,4 @@ qoriwesh-find-spec =
     enum-known-number
     returns-2
     returns-3
-    returns-4)
+    returns-4

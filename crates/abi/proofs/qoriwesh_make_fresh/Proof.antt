@@ -1,105 +1,67 @@
--- `abi::qoriwesh_make_fresh` meets its contract. Assumes nothing.
+-- `abi::qoriwesh_make_fresh` meets its contract.
+-- Assumes nothing.
 use borrow.Author.Needs.{needs}
 use mathlib.Core.Path.{sym, _∙_}
 use borrow.Author.Tests.{not-true, not-false}
-use Rattle.checker.specs.Lent.{lent}
-use Rattle.lentrecord.specs.Lent.{lentRecord}
+use Rattle.levels.specs.Lent.{nowRecord}
+use Rattle.levels.specs.declared.record.Record.{Record}
+use Rattle.cpupri.specs.Record.{lentRecord}
+use Rattle.checker.specs.Lent.{lent, nowTables}
+use Rattle.rules.specs.Tables.{Tables}
 use Rattle.lentrecord.proofs.Entries.{made-unfit, made-fit}
 use Rattle.abi.proofs.qoriwesh_make_fresh.Statement.{statement}
 use Rattle.abi.proofs.qoriwesh_make_fresh.Tie as tie
+use Rattle.abi.proofs.qoriwesh_make_fresh.Proof.Paths as at
+mod Paths
+
+-- what the caller lent
+module _ (c : tie.Start) where
+  abbrev given : Record
+  given = let x = c .args in nowRecord (x .level-masks) (x .level-counts) (x .level-words) (x .levels)
+
+  abbrev tables : Tables
+  tables =
+      let x = c .args in
+      nowTables (x .state) (x .policy) (x .prio) (x .cpu) (x .slice) (x .mask) (x .rows) (x .counts) (x .flags) (x .log)
+
+-- what came back
+module _ (c : tie.After-write) where
+  abbrev left : Record
+  left = let w = at.after-write c .write-last in lentRecord (w .masks) (w .counts) (w .words) (w .levels)
+
+  abbrev left-tables : Tables
+  left-tables =
+      let o = at.after-write c .make-fresh-last in
+      lent (o .state) (o .policy) (o .prio) (o .cpu) (o .slice) (o .mask) (o .rows) (o .counts) (o .flags) (o .log)
 
 lengths-fit-requires : tie.Need-lengths-fit-requires
 lengths-fit-requires c κs = search needs
 
 returns : tie.Need-returns
 returns c =
-    let x = c .before .before .before .before .before .before .before .before .before .before .before .before .before .before .before .before .args in
-    let f = c .before .lengths-fit in
-    made-unfit (x .n) (lentRecord (x .level-masks .now) (x .level-counts .now) (x .level-words .now) (x .levels .now)) (lent (x .state .now) (x .policy .now) (x .prio .now) (x .cpu .now) (x .slice .now) (x .mask .now) (x .rows .now) (x .counts .now) (x .flags .now) (x .log .now)) (sym (f .ensures) ∙ not-true (f .result) (c .if1 .taken))
+    let k = at.returns c in
+    let f = k .lengths-fit in
+    made-unfit (k .args .n) (given (k .start)) (tables (k .start)) (sym (f .ensures) ∙ not-true (f .result) (k .if1 .taken))
 
 read-requires : tie.Need-read-requires
-read-requires c κs = (sym (c .before .before .before .before .before .lengths-fit .ensures) ∙ not-false (c .before .before .before .before .before .lengths-fit .result) (c .before .before .before .before .if1 .left))
+read-requires c κs = let k = at.read-requires c in let f = k .lengths-fit in sym (f .ensures) ∙ not-false (f .result) (k .if1 .left)
 
 make-fresh-requires : tie.Need-make-fresh-requires
 make-fresh-requires c κs = search needs
 
 write-requires : tie.Need-write-requires
-write-requires c κs =
-    let f = c .before .before .before .before .before .before .before .before .before .before .before .before .before .before .before .before .before .before .before .before .before .before .before .before .before .before .before .before .before .before .before .before .before .before .before .before .before .before .before .before .before .before .lengths-fit in
-    (sym (f .ensures) ∙ not-false (f .result) (c .before .before .before .before .before .before .before .before .before .before .before .before .before .before .before .before .before .before .before .before .before .before .before .before .before .before .before .before .before .before .before .before .before .before .before .before .before .before .before .before .before .if1 .left))
-
-same-length : tie.Need-same-length
-same-length c = c .before .before .before .before .before .before .before .before .before .before .before .before .before .before .before .before .before .before .before .before .before .before .before .before .before .before .before .before .before .before .before .before .before .before .make-fresh .kept .1 .0
-
-same-length-2 : tie.Need-same-length-2
-same-length-2 c = c .before .before .before .before .before .before .before .before .before .before .before .before .before .before .before .before .before .before .before .before .before .before .before .before .before .before .before .before .before .before .before .before .before .before .make-fresh .kept .1 .1 .0
-
-same-length-3 : tie.Need-same-length-3
-same-length-3 c = c .before .before .before .before .before .before .before .before .before .before .before .before .before .before .before .before .before .before .before .before .before .before .before .before .before .before .before .before .before .before .before .before .before .before .make-fresh .kept .1 .1 .1 .0
-
-same-length-4 : tie.Need-same-length-4
-same-length-4 c = c .before .before .before .before .before .before .before .before .before .before .before .before .before .before .before .before .before .before .before .before .before .before .before .before .before .before .before .before .before .before .before .before .before .before .make-fresh .kept .1 .1 .1 .1 .0
-
-same-length-5 : tie.Need-same-length-5
-same-length-5 c = c .before .before .before .before .before .before .before .before .before .before .before .before .before .before .before .before .before .before .before .before .before .before .before .before .before .before .before .before .before .before .before .before .before .before .make-fresh .kept .1 .1 .1 .1 .1 .0
-
-same-length-6 : tie.Need-same-length-6
-same-length-6 c = c .before .before .before .before .before .before .before .before .before .before .before .before .before .before .before .before .before .before .before .before .before .before .before .before .before .before .before .before .before .before .before .before .before .before .make-fresh .kept .1 .1 .1 .1 .1 .1 .0
-
-same-length-7 : tie.Need-same-length-7
-same-length-7 c = c .before .before .before .before .before .before .before .before .before .before .before .before .before .before .before .before .before .before .before .before .before .before .before .before .before .before .before .before .before .before .before .before .before .before .make-fresh .kept .1 .1 .1 .1 .1 .1 .1 .0
-
-same-length-8 : tie.Need-same-length-8
-same-length-8 c = c .before .before .before .before .before .before .before .before .before .before .before .before .before .before .before .before .before .before .before .before .before .before .before .before .before .before .before .before .before .before .before .before .before .before .make-fresh .kept .1 .1 .1 .1 .1 .1 .1 .1 .0
-
-same-length-9 : tie.Need-same-length-9
-same-length-9 c = c .before .before .before .before .before .before .before .before .before .before .before .before .before .before .before .before .before .before .before .before .before .before .before .before .before .before .before .before .before .before .before .before .before .before .make-fresh .kept .1 .1 .1 .1 .1 .1 .1 .1 .1 .0
-
-same-length-10 : tie.Need-same-length-10
-same-length-10 c = c .before .before .before .before .before .before .before .before .before .before .before .before .before .before .before .before .before .before .before .before .before .before .before .before .before .before .before .before .before .before .before .before .before .before .make-fresh .kept .1 .1 .1 .1 .1 .1 .1 .1 .1 .1 .0
-
-same-length-11 : tie.Need-same-length-11
-same-length-11 c = c .before .before .before .before .before .before .before .before .write .kept .1 .0
-
-same-length-12 : tie.Need-same-length-12
-same-length-12 c = c .before .before .before .before .before .before .before .before .write .kept .1 .1 .0
-
-same-length-13 : tie.Need-same-length-13
-same-length-13 c = c .before .before .before .before .before .before .before .before .write .kept .1 .1 .1 .0
-
-same-length-14 : tie.Need-same-length-14
-same-length-14 c = c .before .before .before .before .before .before .before .before .write .kept .1 .1 .1 .1 .0
+write-requires c κs = let k = at.write-requires c in let f = k .lengths-fit in sym (f .ensures) ∙ not-false (f .result) (k .if1 .left)
 
 returns-2 : tie.Need-returns-2
 returns-2 c =
-    let x = c .before .before .before .before .before .before .before .before .before .before .before .before .before .before .before .before .before .before .before .before .before .before .before .before .before .before .before .before .before .before .before .before .before .before .before .before .before .before .before .before .before .before .before .before .before .before .before .before .before .before .before .before .before .before .before .before .before .before .before .before .before .before .before .before .before .before .args in
-    let w = c .before .before .before .before .before .before .before .before .write in
-    let g = c .before .before .before .before .before .before .before .before .before .before .before .before .before .before .before .before .before .before .before .before .before .before .before .before .before .before .before .before .before .before .before .before .before .before .before .before .before .before .before .before .before .before .before .before .before .read in
-    let f = c .before .before .before .before .before .before .before .before .before .before .before .before .before .before .before .before .before .before .before .before .before .before .before .before .before .before .before .before .before .before .before .before .before .before .before .before .before .before .before .before .before .before .before .before .before .before .before .before .before .before .before .lengths-fit in
-    let o = c .before .before .before .before .before .before .before .before .before .before .before .before .before .before .before .before .before .before .before .before .before .before .before .before .before .before .before .before .before .before .before .before .before .before .make-fresh in
-    made-fit (x .n) (o .result .answer) (lentRecord (x .level-masks .now) (x .level-counts .now) (x .level-words .now) (x .levels .now)) (g .result) (o .result .«record») (lentRecord (w .last .1 .0) (w .last .1 .1 .0) (w .last .1 .1 .1 .0) (w .last .1 .1 .1 .1 .0)) (lent (x .state .now) (x .policy .now) (x .prio .now) (x .cpu .now) (x .slice .now) (x .mask .now) (x .rows .now) (x .counts .now) (x .flags .now) (x .log .now)) (lent (o .last .1 .0) (o .last .1 .1 .0) (o .last .1 .1 .1 .0) (o .last .1 .1 .1 .1 .0) (o .last .1 .1 .1 .1 .1 .0) (o .last .1 .1 .1 .1 .1 .1 .0) (o .last .1 .1 .1 .1 .1 .1 .1 .0) (o .last .1 .1 .1 .1 .1 .1 .1 .1 .0) (o .last .1 .1 .1 .1 .1 .1 .1 .1 .1 .0) (o .last .1 .1 .1 .1 .1 .1 .1 .1 .1 .1 .0)) (sym (f .ensures) ∙ not-false (f .result) (c .before .before .before .before .before .before .before .before .before .before .before .before .before .before .before .before .before .before .before .before .before .before .before .before .before .before .before .before .before .before .before .before .before .before .before .before .before .before .before .before .before .before .before .before .before .before .before .before .before .before .if1 .left)) (g .ensures) (o .ensures) (w .ensures)
+    let k = at.returns-2 c in
+    let s = k .start in
+    let f = k .lengths-fit in
+    let g = k .read in
+    let o = k .make-fresh in
+    let w = k .after-write in
+    made-fit (k .args .n) (o .result .answer) (given s) (g .result) (o .result .«record») (left w) (tables s) (left-tables w)
+    (sym (f .ensures) ∙ not-false (f .result) (k .if1 .left)) (g .ensures) (o .ensures) (k .write .ensures)
 
 pub qoriwesh-make-fresh-spec : {M : Type 1} → statement M
-qoriwesh-make-fresh-spec =
-    tie.close
-    (tie.spec
-    lengths-fit-requires
-    returns
-    read-requires
-    make-fresh-requires
-    write-requires
-    same-length
-    same-length-2
-    same-length-3
-    same-length-4
-    same-length-5
-    same-length-6
-    same-length-7
-    same-length-8
-    same-length-9
-    same-length-10
-    same-length-11
-    same-length-12
-    same-length-13
-    same-length-14
-    returns-2)
+qoriwesh-make-fresh-spec = at.close lengths-fit-requires returns read-requires make-fresh-requires write-requires returns-2
