@@ -1,6 +1,7 @@
 // Tables without a task: every place free, every row empty.
 ghost use mathlib.Core.Path.{_≡_};
 ghost use lib.ListN.{length, replicate};
+ghost use Rattle.bits.specs.Moments.{old, new};
 ghost use Rattle.rules.specs.Tables.{nothing};
 use fill::fill_u8;
 use fill::fill_u16;
@@ -19,12 +20,12 @@ pub fn free_tasks(
     slice: &mut [u16],
     mask: &mut [u64],
 )
-    ensures { λ u. ⌜ now (state .exit) ≡ replicate (length (now (state .entry))) 0 ⌝ }
-    ensures { λ u. ⌜ now (policy .exit) ≡ replicate (length (now (policy .entry))) 0 ⌝ }
-    ensures { λ u. ⌜ now (prio .exit) ≡ replicate (length (now (prio .entry))) 0 ⌝ }
-    ensures { λ u. ⌜ now (cpu .exit) ≡ replicate (length (now (cpu .entry))) 0 ⌝ }
-    ensures { λ u. ⌜ now (slice .exit) ≡ replicate (length (now (slice .entry))) 0 ⌝ }
-    ensures { λ u. ⌜ now (mask .exit) ≡ replicate (length (now (mask .entry))) 0 ⌝ }
+    ensures { λ u. ⌜ new state ≡ replicate (length (old state)) 0 ⌝ }
+    ensures { λ u. ⌜ new policy ≡ replicate (length (old policy)) 0 ⌝ }
+    ensures { λ u. ⌜ new prio ≡ replicate (length (old prio)) 0 ⌝ }
+    ensures { λ u. ⌜ new cpu ≡ replicate (length (old cpu)) 0 ⌝ }
+    ensures { λ u. ⌜ new slice ≡ replicate (length (old slice)) 0 ⌝ }
+    ensures { λ u. ⌜ new mask ≡ replicate (length (old mask)) 0 ⌝ }
 {
     fill_u8(state, FREE);
     fill_u8(policy, 0);
@@ -36,9 +37,9 @@ pub fn free_tasks(
 
 // No task stands in a row, and no CPU has ordinary work.
 pub fn empty_rows(rows: &mut [u16], counts: &mut [u16], flags: &mut [u8])
-    ensures { λ u. ⌜ now (rows .exit) ≡ replicate (length (now (rows .entry))) nothing ⌝ }
-    ensures { λ u. ⌜ now (counts .exit) ≡ replicate (length (now (counts .entry))) 0 ⌝ }
-    ensures { λ u. ⌜ now (flags .exit) ≡ replicate (length (now (flags .entry))) 0 ⌝ }
+    ensures { λ u. ⌜ new rows ≡ replicate (length (old rows)) nothing ⌝ }
+    ensures { λ u. ⌜ new counts ≡ replicate (length (old counts)) 0 ⌝ }
+    ensures { λ u. ⌜ new flags ≡ replicate (length (old flags)) 0 ⌝ }
 {
     fill_u16(rows, NOTHING);
     fill_u16(counts, 0);

@@ -7,8 +7,10 @@ ghost use Prim.Native.Nat.{ℕ, _<_};
 ghost use lib.Dec.{eqb};
 ghost use lib.ListN.{length};
 ghost use Rattle.bits.specs.Bit.{bit, weight};
+ghost use Rattle.bits.specs.Moments.{old, new};
 ghost use Rattle.levels.specs.Level.{cpuPlaces};
 ghost use Rattle.levels.specs.Record.{lentRecord, masksOf, active};
+ghost use Rattle.levels.specs.Lent.{nowRecord, oldRecord};
 ghost use Rattle.consistency.specs.Consistent.{levelFits, levelsFit, joined, agrees, consistent, Sized};
 use levels::level::Level;
 use levels::record::CPUS;
@@ -23,8 +25,8 @@ pub fn is_consistent<'a>(
     words: &'a [u64; WORDS],
     levels: &'a [u8; CPUS],
 ) -> bool
-    requires { ⌜ Sized (lentRecord (now masks) (now counts) (now words) (now levels)) ⌝ }
-    ensures { λ b. ⌜ b ≡ consistent n (lentRecord (now (masks .entry)) (now (counts .entry)) (now (words .entry)) (now (levels .entry))) ⌝ }
+    requires { ⌜ Sized (nowRecord masks counts words levels) ⌝ }
+    ensures { λ b. ⌜ b ≡ consistent n (oldRecord masks counts words levels) ⌝ }
 {
     let mut right = [0; LEVELS];
     if gather(n, levels, &mut right) {
@@ -38,8 +40,8 @@ pub fn is_consistent<'a>(
 fn gather(n: usize, levels: &[u8; CPUS], right: &mut [u64; LEVELS]) -> bool
     requires { ⌜ length (now levels) ≡ cpuPlaces ⌝ }
     requires { ⌜ now right ≡ masksOf [] ⌝ }
-    ensures { λ b. ⌜ b ≡ levelsFit n (now (levels .entry)) ⌝ }
-    ensures { λ b. ⌜ (levelsFit n (now (levels .entry)) ≡ true → now (right .exit) ≡ masksOf (now (levels .entry))) ⌝ }
+    ensures { λ b. ⌜ b ≡ levelsFit n (old levels) ⌝ }
+    ensures { λ b. ⌜ (levelsFit n (old levels) ≡ true → new right ≡ masksOf (old levels)) ⌝ }
 {
     let mut cpu = 0;
     while cpu < CPUS {
@@ -69,7 +71,7 @@ fn level_fits(n: usize, cpu: usize, level: u8) -> bool
 // Puts a CPU into the mask of its level; INVALID has none.
 fn join(masks: &mut [u64; LEVELS], cpu: usize, level: u8)
     requires { ⌜ cpu < cpuPlaces ⌝ }
-    ensures { λ u. ⌜ now (masks .exit) ≡ joined (now (masks .entry)) cpu level ⌝ }
+    ensures { λ u. ⌜ new masks ≡ joined (old masks) cpu level ⌝ }
 {
     let l = level as usize;
     if l < LEVELS {
@@ -84,7 +86,8 @@ fn parts_agree(
     words: &[u64; WORDS],
     right: &[u64; LEVELS],
 ) -> bool
-    ensures { λ b. ⌜ ((levels : List ℕ) → Sized (lentRecord (now (masks .entry)) (now (counts .entry)) (now (words .entry)) levels) → now (right .entry) ≡ masksOf levels → b ≡ agrees (lentRecord (now (masks .entry)) (now (counts .entry)) (now (words .entry)) levels)) ⌝ }
+    ensures { λ b. ⌜ ((levels : List ℕ) → let r = lentRecord (old masks) (old counts) (old words) levels in
+        Sized r → old right ≡ masksOf levels → b ≡ agrees r) ⌝ }
 {
     let mut level = 0;
     while level < LEVELS {

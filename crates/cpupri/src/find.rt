@@ -2,6 +2,7 @@
 // CPU. It reads one mask a level.
 ghost use mathlib.Core.Path.{_≡_};
 ghost use Prim.Native.Nat.{_≤_};
+ghost use Rattle.bits.specs.Moments.{old};
 ghost use Rattle.levels.specs.Level.{levelCount, cpuPlaces};
 ghost use Rattle.cpupri.specs.Found.{maskFits, answerOf, lowestFound, found};
 use consistency::is_consistent;
@@ -55,7 +56,7 @@ pub fn mask_fits(n: usize, mask: u64) -> bool
 // The search itself, over a record's masks.
 pub fn lowest(masks: &[u64; LEVELS], below: usize, mask: u64) -> Found
     requires { ⌜ below ≤ levelCount ⌝ }
-    ensures { λ a. ⌜ a ≡ lowestFound (now (masks .entry)) below mask ⌝ }
+    ensures { λ a. ⌜ a ≡ lowestFound (old masks) below mask ⌝ }
 {
     let mut level = 0;
     while level < below {

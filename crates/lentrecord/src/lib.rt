@@ -2,7 +2,8 @@
 ghost use mathlib.Core.Path.{_≡_};
 ghost use mathlib.Core.Bool.{true};
 ghost use lib.ListN.{length};
-ghost use Rattle.lentrecord.specs.Lent.{recordFits, lentRecord};
+ghost use Rattle.levels.specs.Lent.{oldRecord, newRecord};
+ghost use Rattle.lentrecord.specs.Lent.{recordFits};
 use copy::copy_u8;
 use copy::copy_u64;
 use cpupri::record::CPUS;
@@ -22,7 +23,7 @@ pub fn lengths_fit(masks: usize, counts: usize, words: usize, levels: usize) -> 
 // The record that the four tables hold.
 pub fn read(masks: &[u64], counts: &[u8], words: &[u64], levels: &[u8]) -> Record
     requires { ⌜ recordFits (length (now masks)) (length (now counts)) (length (now words)) (length (now levels)) ≡ true ⌝ }
-    ensures { λ r. ⌜ r ≡ lentRecord (now (masks .entry)) (now (counts .entry)) (now (words .entry)) (now (levels .entry)) ⌝ }
+    ensures { λ r. ⌜ r ≡ oldRecord masks counts words levels ⌝ }
 {
     let mut m = [0u64; LEVELS];
     copy_u64(masks, &mut m);
@@ -49,7 +50,7 @@ pub fn write(
     levels: &mut [u8],
 )
     requires { ⌜ recordFits (length (now masks)) (length (now counts)) (length (now words)) (length (now levels)) ≡ true ⌝ }
-    ensures { λ u. ⌜ lentRecord (now (masks .exit)) (now (counts .exit)) (now (words .exit)) (now (levels .exit)) ≡ «record» ⌝ }
+    ensures { λ u. ⌜ newRecord masks counts words levels ≡ «record» ⌝ }
 {
     copy_u64(&record.masks, masks);
     copy_u8(&record.counts, counts);

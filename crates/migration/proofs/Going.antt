@@ -36,12 +36,12 @@ pub record Going (m : Machine) (ps cs ms ks flat old log : List ℕ) (k : ℕ) (
   pub moves : k ≡ length steps
   pub logs : log ≡ logged steps old
 
-pub going-start : (m : Machine) (ps cs ms ks flat old : List ℕ) (r : Record) → Settling m ps cs ms ks flat r → Going m ps cs ms ks flat old old 0 r
+pub going-start : {m : Machine} {ps cs ms ks flat old : List ℕ} {r : Record} → Settling m ps cs ms ks flat r → Going m ps cs ms ks flat old old 0 r
 unfolding logNumbers
-going-start m ps cs ms ks flat old r s =
+going-start {m} s =
     record { steps = []; reached = m; taken = begin; held = s .held; cpus = s .cpus; masks = s .masks; moves = refl; logs = refl }
 
-module _ (m : Machine) (w : WellFormed m) (ps cs ms ks flat old log : List ℕ) (k : ℕ) (r : Record) (g : Going m ps cs ms ks flat old log k r) where
+module _ {m : Machine} (w : WellFormed m) {ps cs ms ks flat old log : List ℕ} {k : ℕ} {r : Record} (g : Going m ps cs ms ks flat old log k r) where
   abbrev e : Machine
   e = g .reached
 
@@ -56,8 +56,8 @@ module _ (m : Machine) (w : WellFormed m) (ps cs ms ks flat old log : List ℕ) 
   few = omega (arith, taken-few w (g .taken), g .moves)
 
   -- and where one more applies, fewer than N with it
-  pub more-few : (v : Move) → next e ≡ some v → suc k < m .n
-  more-few v n = omega (arith, taken-few w (onto (g .taken) n), length-append (g .steps) (v ∷ []), g .moves)
+  pub more-few : {v : Move} → next e ≡ some v → suc k < m .n
+  more-few {v} n = omega (arith, taken-few w (onto (g .taken) n), length-append (g .steps) (v ∷ []), g .moves)
 
   pub record-masks : r .masks ≡ masksOf (levels e)
   unfolding recordOf
@@ -72,7 +72,7 @@ module _ (m : Machine) (w : WellFormed m) (ps cs ms ks flat old log : List ℕ) 
       subst (λ (s : Settled). Ended s ps cs ks flat old log k r) (sym (taken-all w (g .taken) (none-next e here (best .none z))))
       (record { held = g .held; cpus = g .cpus; moves = g .moves; logs = g .logs })
 
-  module _ (b : Mover) (f : Foremost e (e .n) b) where
+  module _ {b : Mover} (f : Foremost e (e .n) b) where
     -- the finder is asked with the mover's level and mask
     asks : (P : List ℕ → ℕ → ℕ → Type 0) → P (masksOf (levels e)) (levelOf (prioOf e (b .task))) (taskOf e (b .task) .mask) → P (r .masks) (levelOf (b .priority)) (getD ms (b .task) 0)
     asks P p =
@@ -87,19 +87,19 @@ module _ (m : Machine) (w : WellFormed m) (ps cs ms ks flat old log : List ℕ) 
     going-high = subst (λ (p : ℕ). p ≤ 99) (sym (f .prio)) (mover-fit e here b f .prio-high)
 
     -- the step that applies, with the destination that it gives
-    pub going-next : (d : ℕ) → d ≡ lowest 64 (allowedAt (r .masks) (getD ms (b .task) 0) (lowestLevel (r .masks) (levelOf (b .priority)) (getD ms (b .task) 0)))
+    pub going-next : {d : ℕ} → d ≡ lowest 64 (allowedAt (r .masks) (getD ms (b .task) 0) (lowestLevel (r .masks) (levelOf (b .priority)) (getD ms (b .task) 0)))
         → next e ≡ some (record { task = b .task; origin = b .origin; target = d })
-    going-next d h =
+    going-next h =
         best-next e here b f
         ∙ ap (λ (x : ℕ). some (record { task = b .task; origin = b .origin; target = x }))
         (asks (λ (q : List ℕ) (l k : ℕ). lowest 64 (allowedAt (masksOf (levels e)) (taskOf e (b .task) .mask) (lowestLevel (masksOf (levels e)) (levelOf (prioOf e (b .task))) (taskOf e (b .task) .mask))) ≡ lowest 64 (allowedAt q k (lowestLevel q l k))) refl
         ∙ sym h)
 
   -- one step more
-  pub going-on : (t o d : ℕ) → next e ≡ some (record { task = t; origin = o; target = d }) → k * 3 + 2 < length old → (cs′ ks′ flat′ log′ : List ℕ) (r′ : Record)
+  pub going-on : {t o d : ℕ} → next e ≡ some (record { task = t; origin = o; target = d }) → k * 3 + 2 < length old → {cs′ ks′ flat′ log′ : List ℕ} {r′ : Record}
       → Held (enqueue t d (dequeue t o e)) ps ks′ flat′ r′ → cs′ ≡ set cs t d → log′ ≡ set (set (set log (k * 3) t) (k * 3 + 1) o) (k * 3 + 2) d
       → Going m ps cs′ ms ks′ flat′ old log′ (k + 1) r′
-  going-on t o d n h cs′ ks′ flat′ log′ r′ held ec el =
+  going-on {t} {o} {d} n h held ec el =
       record {
         steps = g .steps ++ (record { task = t; origin = o; target = d } ∷ []);
         reached = enqueue t d (dequeue t o e);

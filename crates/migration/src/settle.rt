@@ -3,8 +3,9 @@ ghost use mathlib.Core.Path.{_≡_};
 ghost use Prim.Native.Nat.{_+_, _*_, _≤_, _<_};
 ghost use lib.ListN.{length, set};
 ghost use Rattle.bits.specs.Bit.{lowest};
+ghost use Rattle.bits.specs.Moments.{old, new};
+ghost use Rattle.levels.specs.Lent.{nowRecord, oldRecord, newRecord};
 ghost use Rattle.cpupri.specs.Level.{levelOf};
-ghost use Rattle.cpupri.specs.Record.{lentRecord};
 ghost use Rattle.cpupri.specs.Found.{lowestLevel, allowedAt};
 ghost use Rattle.rules.specs.Machine.{Machine, taskPlaces, highestPriority, enqueue, dequeue};
 ghost use Rattle.rules.specs.Migration.{settled};
@@ -32,9 +33,13 @@ pub fn settle(
     words: &mut [u64; WORDS],
     levels: &mut [u8; CPUS],
 ) -> usize
-    requires { ⌜ ((m : Machine) × (Settling m (now prio) (now cpu) (now mask) (now counts) (now rows) (lentRecord (now masks) (now tallies) (now words) (now levels)) × (n ≡ m .n))) ⌝ }
+    requires { let r = nowRecord masks tallies words levels in
+        ⌜ ((m : Machine) × (Settling m (now prio) (now cpu) (now mask) (now counts) (now rows) r × (n ≡ m .n))) ⌝ }
     requires { ⌜ length (now log) ≡ logPlaces ⌝ }
-    ensures { λ r. ⌜ ((m : Machine) → Settling m (now (prio .entry)) (now (cpu .entry)) (now (mask .entry)) (now (counts .entry)) (now (rows .entry)) (lentRecord (now (masks .entry)) (now (tallies .entry)) (now (words .entry)) (now (levels .entry))) → n ≡ m .n → Ended (settled m) (now (prio .entry)) (now (cpu .exit)) (now (counts .exit)) (now (rows .exit)) (now (log .entry)) (now (log .exit)) r (lentRecord (now (masks .exit)) (now (tallies .exit)) (now (words .exit)) (now (levels .exit)))) ⌝ }
+    ensures { λ k. let r = oldRecord masks tallies words levels in
+        let s = newRecord masks tallies words levels in
+        ⌜ ((m : Machine) → Settling m (old prio) (old cpu) (old mask) (old counts) (old rows) r → n ≡ m .n
+        → Ended (settled m) (old prio) (new cpu) (new counts) (new rows) (old log) (new log) k s) ⌝ }
 {
     let mut moves = 0;
     loop {
@@ -79,10 +84,14 @@ fn migrate(
     target: usize,
     task: u16,
 )
-    requires { ⌜ ((m : Machine) × Stepping m (now prio) (now counts) (now rows) (lentRecord (now masks) (now tallies) (now words) (now levels)) task origin target) ⌝ }
+    requires { let r = nowRecord masks tallies words levels in
+        ⌜ ((m : Machine) × Stepping m (now prio) (now counts) (now rows) r task origin target) ⌝ }
     requires { ⌜ length (now cpus) ≡ taskPlaces ⌝ }
-    ensures { λ u. ⌜ ((m : Machine) → Stepping m (now (prio .entry)) (now (counts .entry)) (now (rows .entry)) (lentRecord (now (masks .entry)) (now (tallies .entry)) (now (words .entry)) (now (levels .entry))) task origin target → Held (enqueue task target (dequeue task origin m)) (now (prio .entry)) (now (counts .exit)) (now (rows .exit)) (lentRecord (now (masks .exit)) (now (tallies .exit)) (now (words .exit)) (now (levels .exit)))) ⌝ }
-    ensures { λ u. ⌜ now (cpus .exit) ≡ set (now (cpus .entry)) task target ⌝ }
+    ensures { λ u. let r = oldRecord masks tallies words levels in
+        let s = newRecord masks tallies words levels in
+        ⌜ ((m : Machine) → Stepping m (old prio) (old counts) (old rows) r task origin target
+        → Held (enqueue task target (dequeue task origin m)) (old prio) (new counts) (new rows) s) ⌝
+        ∗ ⌜ new cpus ≡ set (old cpus) task target ⌝ }
 {
     runqueue::table::dequeue(rows, counts, origin, task);
     placement::enter(
@@ -103,7 +112,7 @@ fn migrate(
 fn destination(masks: &[u64; LEVELS], priority: u8, mask: u64) -> usize
     requires { ⌜ priority ≤ highestPriority ⌝ }
     requires { ⌜ lowestLevel (now masks) (levelOf priority) mask < levelOf priority ⌝ }
-    ensures { λ r. ⌜ r ≡ lowest 64 (allowedAt (now (masks .entry)) mask (lowestLevel (now (masks .entry)) (levelOf priority) mask)) ⌝ }
+    ensures { λ r. ⌜ r ≡ lowest 64 (allowedAt (old masks) mask (lowestLevel (old masks) (levelOf priority) mask)) ⌝ }
 {
     let level = Level::of_priority(priority);
     let below = level.number as usize;
@@ -124,7 +133,7 @@ fn note(log: &mut [u16], entry: usize, task: u16, origin: usize, target: usize)
     requires { ⌜ entry < 64 ⌝ }
     requires { ⌜ origin < 64 ⌝ }
     requires { ⌜ target < 64 ⌝ }
-    ensures { λ u. ⌜ now (log .exit) ≡ set (set (set (now (log .entry)) (entry * 3) task) (entry * 3 + 1) origin) (entry * 3 + 2) target ⌝ }
+    ensures { λ u. ⌜ new log ≡ set (set (set (old log) (entry * 3) task) (entry * 3 + 1) origin) (entry * 3 + 2) target ⌝ }
 {
     let at = entry * 3;
     log[at] = task;

@@ -3,6 +3,7 @@
 ghost use mathlib.Core.Path.{_≡_};
 ghost use Prim.Native.Nat.{suc, _≤_, _<_};
 ghost use lib.ListN.{getD};
+ghost use Rattle.bits.specs.Moments.{old};
 ghost use Rattle.rules.specs.Machine.{Machine};
 ghost use Rattle.mover.specs.Foremost.{Looking, BestOf};
 ghost use Rattle.mover.specs.Waiting.{NextWaiting};
@@ -27,7 +28,7 @@ pub fn pick(
     masks: &[u64; LEVELS],
 ) -> Mover
     requires { ⌜ ((m : Machine) × (Looking m (now prio) (now mask) (now counts) (now rows) (now masks) × (n ≡ m .n))) ⌝ }
-    ensures { λ r. ⌜ ((m : Machine) → Looking m (now (prio .entry)) (now (mask .entry)) (now (counts .entry)) (now (rows .entry)) (now (masks .entry)) → n ≡ m .n → BestOf m n r) ⌝ }
+    ensures { λ r. ⌜ ((m : Machine) → Looking m (old prio) (old mask) (old counts) (old rows) (old masks) → n ≡ m .n → BestOf m n r) ⌝ }
 {
     let mut best = Mover {
         task: 0,
@@ -45,7 +46,7 @@ pub fn pick(
 // The first CPU on which a task waits, from the CPU `from` on; n if there is none.
 fn next_waiting(counts: &[u16], from: usize, n: usize) -> usize
     requires { do ⌜ ((from ≤ n) × (n ≤ (← ⟦counts.len()⟧))) ⌝ }
-    ensures { λ r. ⌜ NextWaiting (now (counts .entry)) from n r ⌝ }
+    ensures { λ r. ⌜ NextWaiting (old counts) from n r ⌝ }
 {
     let mut next = from;
     while next < n {
@@ -67,8 +68,10 @@ fn better(
     counts: &[u16],
     masks: &[u64; LEVELS],
 ) -> Mover
-    requires { ⌜ ((m : Machine) × (Looking m (now prio) (now mask) (now counts) (now rows) (now masks) × (cpu < m .n) × (2 ≤ getD (now counts) cpu 0))) ⌝ }
-    ensures { λ r. ⌜ ((m : Machine) → Looking m (now (prio .entry)) (now (mask .entry)) (now (counts .entry)) (now (rows .entry)) (now (masks .entry)) → cpu < m .n → BestOf m cpu best → BestOf m (suc cpu) r) ⌝ }
+    requires { ⌜ ((m : Machine) × (Looking m (now prio) (now mask) (now counts) (now rows) (now masks)
+        × (cpu < m .n) × (2 ≤ getD (now counts) cpu 0))) ⌝ }
+    ensures { λ r. ⌜ ((m : Machine) → Looking m (old prio) (old mask) (old counts) (old rows) (old masks)
+        → cpu < m .n → BestOf m cpu best → BestOf m (suc cpu) r) ⌝ }
 {
     let count = counts[cpu] as usize;
     let start = cpu * PLACES;

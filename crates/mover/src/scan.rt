@@ -4,6 +4,7 @@ ghost use mathlib.Core.List.{tail};
 ghost use Prim.Native.Nat.{suc, _≤_};
 ghost use lib.Dec.{ltb};
 ghost use lib.ListN.{take};
+ghost use Rattle.bits.specs.Moments.{old};
 ghost use Rattle.cpupri.specs.Level.{levelOf};
 ghost use Rattle.cpupri.specs.Found.{lowestLevel};
 ghost use Rattle.rules.specs.Machine.{highestPriority};
@@ -25,7 +26,7 @@ pub fn scan(
     floor: u8,
 ) -> usize
     requires { ⌜ Searchable (now prio) (now mask) (now row) count ⌝ }
-    ensures { λ r. ⌜ r ≡ suc (ahead (wanted (now (masks .entry)) (now (prio .entry)) (now (mask .entry)) floor) (tail (take count (now (row .entry))))) ⌝ }
+    ensures { λ r. ⌜ r ≡ suc (ahead (wanted (old masks) (old prio) (old mask) floor) (tail (take count (old row)))) ⌝ }
 {
     let mut at = 1;
     while at < count {
@@ -45,7 +46,7 @@ pub fn scan(
 // Whether some CPU of the mask is below the level of this priority.
 fn has_lower_cpu(masks: &[u64; LEVELS], priority: u8, mask: u64) -> bool
     requires { ⌜ priority ≤ highestPriority ⌝ }
-    ensures { λ b. ⌜ b ≡ ltb (lowestLevel (now (masks .entry)) (levelOf priority) mask) (levelOf priority) ⌝ }
+    ensures { λ b. ⌜ b ≡ ltb (lowestLevel (old masks) (levelOf priority) mask) (levelOf priority) ⌝ }
 {
     let level = Level::of_priority(priority);
     let below = level.number as usize;

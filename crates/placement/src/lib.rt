@@ -3,9 +3,9 @@
 ghost use mathlib.Core.Path.{_≡_};
 ghost use Prim.Native.Nat.{ℕ, _*_, _≤_, _<_};
 ghost use lib.ListN.{length, getD, set};
-ghost use Rattle.bits.specs.Moments.{old};
-ghost use Rattle.cpupri.specs.Record.{lentRecord, recordOf, Whole};
-ghost use Rattle.levels.specs.Lent.{nowRecord, newRecord};
+ghost use Rattle.bits.specs.Moments.{old, new};
+ghost use Rattle.cpupri.specs.Record.{recordOf, Whole};
+ghost use Rattle.levels.specs.Lent.{nowRecord, oldRecord, newRecord};
 ghost use Rattle.cpupri.specs.Level.{levelOf};
 ghost use Rattle.rules.specs.Lists.{In};
 ghost use Rattle.rules.specs.Machine.{Machine, taskPlaces, highestPriority, level, rowLevel, enqueue};
@@ -55,10 +55,14 @@ pub fn enter(
     cpu: usize,
     task: u16,
 )
-    requires { ⌜ ((m : Machine) × Entering m (now prio) (now counts) (now rows) (lentRecord (now masks) (now tallies) (now words) (now levels)) task cpu) ⌝ }
+    requires { let r = nowRecord masks tallies words levels in
+        ⌜ ((m : Machine) × Entering m (now prio) (now counts) (now rows) r task cpu) ⌝ }
     requires { ⌜ length (now cpus) ≡ taskPlaces ⌝ }
-    ensures { λ u. ⌜ ((m : Machine) → Entering m (now (prio .entry)) (now (counts .entry)) (now (rows .entry)) (lentRecord (now (masks .entry)) (now (tallies .entry)) (now (words .entry)) (now (levels .entry))) task cpu → Held (enqueue task cpu m) (now (prio .entry)) (now (counts .exit)) (now (rows .exit)) (lentRecord (now (masks .exit)) (now (tallies .exit)) (now (words .exit)) (now (levels .exit)))) ⌝ }
-    ensures { λ u. ⌜ now (cpus .exit) ≡ set (now (cpus .entry)) task cpu ⌝ }
+    ensures { λ u. let r = oldRecord masks tallies words levels in
+        let s = newRecord masks tallies words levels in
+        ⌜ ((m : Machine) → Entering m (old prio) (old counts) (old rows) r task cpu
+        → Held (enqueue task cpu m) (old prio) (new counts) (new rows) s) ⌝
+        ∗ ⌜ new cpus ≡ set (old cpus) task cpu ⌝ }
 {
     runqueue::table::enqueue(rows, counts, prio, cpu, task);
     cpus[task as usize] = cpu as u8;
@@ -73,7 +77,7 @@ pub fn cpu_level(rows: &[u16], counts: &[u16], prio: &[u8], flags: &[u8], cpu: u
     requires { ⌜ cpu < length (now flags) ⌝ }
     requires { ⌜ length (now prio) ≡ taskPlaces ⌝ }
     requires { ⌜ ((u : ℕ) → In u (rowAt (now counts) (now rows) cpu) → (u < taskPlaces) × (getD (now prio) u 0 ≤ highestPriority)) ⌝ }
-    ensures { λ r. ⌜ r .number ≡ rowLevel (λ u. getD (now (prio .entry)) u 0) (getD (now (flags .entry)) cpu 0) (rowAt (now (counts .entry)) (now (rows .entry)) cpu) ⌝ }
+    ensures { λ r. ⌜ r .number ≡ rowLevel (λ u. getD (old prio) u 0) (getD (old flags) cpu 0) (rowAt (old counts) (old rows) cpu) ⌝ }
 {
     if counts[cpu] == 0 {
         return Level { number: flags[cpu] };
@@ -87,7 +91,7 @@ fn first_level(rows: &[u16], prio: &[u8], cpu: usize) -> Level
     requires { ⌜ length (now prio) ≡ taskPlaces ⌝ }
     requires { ⌜ getD (now rows) (cpu * taskPlaces) 0 < taskPlaces ⌝ }
     requires { ⌜ getD (now prio) (getD (now rows) (cpu * taskPlaces) 0) 0 ≤ highestPriority ⌝ }
-    ensures { λ r. ⌜ r .number ≡ levelOf (getD (now (prio .entry)) (getD (now (rows .entry)) (cpu * taskPlaces) 0) 0) ⌝ }
+    ensures { λ r. ⌜ r .number ≡ levelOf (getD (old prio) (getD (old rows) (cpu * taskPlaces) 0) 0) ⌝ }
 {
     let first = rows[cpu * runqueue::row::PLACES] as usize;
     Level::of_priority(prio[first])

@@ -5,6 +5,7 @@ ghost use Prim.Native.Nat.{ℕ, _+_, _<_};
 ghost use lib.Dec.{eqb};
 ghost use lib.ListN.{length};
 ghost use Rattle.bits.specs.Bit.{digit};
+ghost use Rattle.bits.specs.Moments.{old, new};
 ghost use Rattle.rules.specs.Machine.{taskPlaces};
 ghost use Rattle.rowcheck.specs.Placed.{setWords, marked, mark};
 
@@ -16,8 +17,9 @@ pub const WORDS: usize = 8;
 pub fn add(marks: &mut [u64; WORDS], task: usize) -> bool
     requires { ⌜ length (now marks) ≡ setWords ⌝ }
     requires { ⌜ task < taskPlaces ⌝ }
-    ensures { λ b. ⌜ b ≡ not (marked (now (marks .entry)) task) ⌝ }
-    ensures { λ b. ⌜ (b ≡ true → (length (now (marks .exit)) ≡ setWords) × ((u : ℕ) → mark (now (marks .exit)) u ≡ mark (now (marks .entry)) u + digit (eqb u task))) ⌝ }
+    ensures { λ b. ⌜ b ≡ not (marked (old marks) task) ⌝ }
+    ensures { λ b. ⌜ (b ≡ true → (length (new marks) ≡ setWords)
+        × ((u : ℕ) → mark (new marks) u ≡ mark (old marks) u + digit (eqb u task))) ⌝ }
 {
     let word = task / BITS;
     let old = marks[word];
@@ -31,7 +33,7 @@ pub fn add(marks: &mut [u64; WORDS], task: usize) -> bool
 // Whether a task is in the set.
 pub fn has(marks: &[u64; WORDS], task: usize) -> bool
     requires { ⌜ task < taskPlaces ⌝ }
-    ensures { λ b. ⌜ b ≡ marked (now (marks .entry)) task ⌝ }
+    ensures { λ b. ⌜ b ≡ marked (old marks) task ⌝ }
 {
     bits::test_bit(marks[task / BITS], task % BITS)
 }

@@ -3,6 +3,7 @@ ghost use mathlib.Core.Path.{_≡_};
 ghost use mathlib.Core.Bool.{true};
 ghost use Prim.Native.Nat.{ℕ, _≤_, _<_};
 ghost use lib.ListN.{length, getD, take};
+ghost use Rattle.bits.specs.Moments.{old, new};
 ghost use Rattle.rules.specs.Machine.{taskPlaces, rowLevel};
 ghost use Rattle.rowcheck.specs.Says.{Says};
 ghost use Rattle.rowcheck.specs.Placed.{setWords, Stands, AllStand, Once, Marks, Unused, Row};
@@ -32,8 +33,8 @@ pub fn row_fits(
 ) -> bool
     requires { ⌜ (length (now state) ≡ taskPlaces) × (length (now prio) ≡ taskPlaces) × (length (now cpu) ≡ taskPlaces) ⌝ }
     requires { ⌜ (length (now row) ≡ taskPlaces) × (length (now marks) ≡ setWords) ⌝ }
-    ensures { λ b. ⌜ Says b (Row (now (state .entry)) (now (prio .entry)) (now (cpu .entry)) (now (row .entry)) c count flag level × Once (now (marks .entry)) (now (row .entry)) count) ⌝ }
-    ensures { λ b. ⌜ (b ≡ true → Marks (now (marks .entry)) (now (row .entry)) count (now (marks .exit))) ⌝ }
+    ensures { λ b. ⌜ Says b (Row (old state) (old prio) (old cpu) (old row) c count flag level × Once (old marks) (old row) count) ⌝ }
+    ensures { λ b. ⌜ (b ≡ true → Marks (old marks) (old row) count (new marks)) ⌝ }
 {
     let k = count as usize;
     if PLACES < k {
@@ -57,8 +58,8 @@ fn tasks_stand(
 ) -> bool
     requires { ⌜ (length (now state) ≡ taskPlaces) × (length (now prio) ≡ taskPlaces) × (length (now cpu) ≡ taskPlaces) ⌝ }
     requires { ⌜ (count ≤ length (now row)) × (length (now marks) ≡ setWords) ⌝ }
-    ensures { λ b. ⌜ Says b (AllStand (now (state .entry)) (now (prio .entry)) (now (cpu .entry)) (now (row .entry)) c count × Once (now (marks .entry)) (now (row .entry)) count) ⌝ }
-    ensures { λ b. ⌜ (b ≡ true → Marks (now (marks .entry)) (now (row .entry)) count (now (marks .exit))) ⌝ }
+    ensures { λ b. ⌜ Says b (AllStand (old state) (old prio) (old cpu) (old row) c count × Once (old marks) (old row) count) ⌝ }
+    ensures { λ b. ⌜ (b ≡ true → Marks (old marks) (old row) count (new marks)) ⌝ }
 {
     let mut bound = TOP;
     let mut i = 0;
@@ -79,7 +80,7 @@ fn tasks_stand(
 // Whether a task may stand in the row of CPU c, behind a task of priority `bound`.
 fn stands(c: usize, task: usize, bound: u8, state: &[u8], prio: &[u8], cpu: &[u8]) -> bool
     requires { ⌜ (length (now state) ≡ taskPlaces) × (length (now prio) ≡ taskPlaces) × (length (now cpu) ≡ taskPlaces) ⌝ }
-    ensures { λ b. ⌜ Says b (Stands (now (state .entry)) (now (prio .entry)) (now (cpu .entry)) c bound task) ⌝ }
+    ensures { λ b. ⌜ Says b (Stands (old state) (old prio) (old cpu) c bound task) ⌝ }
 {
     if PLACES <= task {
         return false;
@@ -91,7 +92,7 @@ fn stands(c: usize, task: usize, bound: u8, state: &[u8], prio: &[u8], cpu: &[u8
 fn unused(row: &[u16], count: usize) -> bool
     requires { ⌜ length (now row) ≡ taskPlaces ⌝ }
     requires { ⌜ count ≤ taskPlaces ⌝ }
-    ensures { λ b. ⌜ Says b (Unused (now (row .entry)) count) ⌝ }
+    ensures { λ b. ⌜ Says b (Unused (old row) count) ⌝ }
 {
     let mut all = true;
     let mut i = count;
@@ -106,7 +107,7 @@ fn unused(row: &[u16], count: usize) -> bool
 fn level_fits(row: &[u16], count: usize, flag: u8, level: u8, prio: &[u8]) -> bool
     requires { ⌜ (length (now row) ≡ taskPlaces) × (length (now prio) ≡ taskPlaces) ⌝ }
     requires { ⌜ ((i : ℕ) → i < count → getD (now row) i 0 < taskPlaces) ⌝ }
-    ensures { λ b. ⌜ Says b (level ≡ rowLevel (λ u. getD (now (prio .entry)) u 0) flag (take count (now (row .entry)))) ⌝ }
+    ensures { λ b. ⌜ Says b (level ≡ rowLevel (λ u. getD (old prio) u 0) flag (take count (old row))) ⌝ }
 {
     if count == 0 {
         return level == flag;

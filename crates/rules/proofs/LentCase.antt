@@ -52,7 +52,9 @@ look q =
 pub k2-lent : look (all-handled after2 (made 2 blank old))
     ≡ (0 ∷ 1 ∷ []) ∷ (1 ∷ 0 ∷ 1 ∷ nothing ∷ nothing ∷ nothing ∷ []) ∷ (1 ∷ 1 ∷ []) ∷ (0 ∷ nothing ∷ []) ∷ (1 ∷ nothing ∷ [])
     ∷ (52 ∷ 42 ∷ invalid ∷ []) ∷ ((2 ^ 52 + 2 ^ 42) ∷ 0 ∷ []) ∷ []
-unfolding bit first tally packed levelFits fitFrom levelsFit same agrees consistent refusal sizeFits maskFits table maskAt countAt masksOf countsOf wordsOf recordOf from select joined any each bestFrom best insertBefore delete gathered falls next settle outcome logNumbers rowsOf padded flatOf storedRow storedRows checked eventAnswer made handled all-handled
+unfolding bit first tally packed levelFits fitFrom levelsFit same agrees consistent refusal sizeFits maskFits table maskAt countAt masksOf countsOf wordsOf recordOf
+    from select joined any each bestFrom best insertBefore delete gathered falls next settle outcome logNumbers rowsOf padded flatOf storedRow storedRows checked
+    eventAnswer made handled all-handled
 k2-lent = refl
 
 pub old-refused : checked 2 blank old ≡ 2

@@ -97,3 +97,24 @@ as-counted c P p =
     let start : taskPlaces * c ≡ c * 512 = omega arith in
     let size : taskPlaces ≡ c * 512 + 512 - c * 512 = omega arith in
     subst₂ P start size p
+
+-- ---- the part as the code lends it
+
+abbrev pub lentPart : List ℕ → ℕ → List ℕ
+lentPart rows c = take (c * 512 + 512 - c * 512) (drop (c * 512) rows)
+
+-- the flat table with another part in its place
+abbrev pub withPart : List ℕ → ℕ → List ℕ → List ℕ
+withPart rows c part = take (c * 512) rows ++ (part ++ drop (c * 512 + 512 - c * 512) (drop (c * 512) rows))
+
+module _ {counts rows : List ℕ} (held : HoldsRows counts rows) (c : ℕ) (hc : c < length counts) where
+  pub lent-held : HoldsRow (getD counts c 0) (lentPart rows c)
+  lent-held = as-counted c (λ (s k : ℕ). HoldsRow (getD counts c 0) (take k (drop s rows))) (part-held counts rows held c hc)
+
+  pub lent-row : take (getD counts c 0) (lentPart rows c) ≡ rowAt counts rows c
+  lent-row = as-counted c (λ (s k : ℕ). take (getD counts c 0) (take k (drop s rows)) ≡ rowAt counts rows c) (part-taken counts rows held c hc)
+
+  pub lent-become : (q : List ℕ) {part : List ℕ} → part ≡ padded q → withPart rows c part ≡ flatOf (rowsWith counts rows c q)
+  lent-become q e =
+      ap (withPart rows c) e
+      ∙ as-counted c (λ (s k : ℕ). take s rows ++ (padded q ++ drop k (drop s rows)) ≡ flatOf (rowsWith counts rows c q)) (rows-become counts rows held c hc q)

@@ -3,6 +3,7 @@ ghost use mathlib.Core.Path.{_≡_};
 ghost use Prim.Native.Nat.{ℕ, _≤_, _<_};
 ghost use lib.Dec.{ltb};
 ghost use lib.ListN.{length, getD, take};
+ghost use Rattle.bits.specs.Moments.{old, new};
 ghost use Rattle.rules.specs.Lists.{In, Falling, place, delete};
 ghost use Rattle.rules.specs.Machine.{taskPlaces, queued};
 ghost use Rattle.rules.specs.Tables.{padded};
@@ -16,7 +17,7 @@ pub const NOTHING: u16 = 65535;
 pub fn remove(row: &mut [u16], count: usize, task: u16)
     requires { ⌜ HoldsRow count (now row) ⌝ }
     requires { ⌜ In task (take count (now row)) ⌝ }
-    ensures { λ u. ⌜ now (row .exit) ≡ padded (delete task (take count (now (row .entry)))) ⌝ }
+    ensures { λ u. ⌜ new row ≡ padded (delete task (take count (old row))) ⌝ }
 {
     let at = position(row, count, task);
     shift_down(row, at, count);
@@ -30,7 +31,7 @@ pub fn insert(row: &mut [u16], prio: &[u8], count: usize, task: u16, priority: u
     requires { ⌜ ((i : ℕ) → i < count → getD (now row) i 0 < taskPlaces) ⌝ }
     requires { ⌜ Falling (λ u. getD (now prio) u 0) (take count (now row)) ⌝ }
     requires { ⌜ getD (now prio) task 0 ≡ priority ⌝ }
-    ensures { λ u. ⌜ now (row .exit) ≡ padded (queued (λ u. getD (now (prio .entry)) u 0) task (take count (now (row .entry)))) ⌝ }
+    ensures { λ u. ⌜ new row ≡ padded (queued (λ u. getD (old prio) u 0) task (take count (old row))) ⌝ }
 {
     let at = rank(row, prio, count, priority);
     shift_up(row, at, count);
@@ -41,7 +42,7 @@ pub fn insert(row: &mut [u16], prio: &[u8], count: usize, task: u16, priority: u
 fn position(row: &[u16], count: usize, task: u16) -> usize
     requires { ⌜ count ≤ length (now row) ⌝ }
     requires { ⌜ In task (take count (now row)) ⌝ }
-    ensures { λ r. ⌜ r ≡ place task (take count (now (row .entry))) ⌝ }
+    ensures { λ r. ⌜ r ≡ place task (take count (old row)) ⌝ }
 {
     let mut at = 0;
     while row[at] != task {
@@ -57,7 +58,7 @@ fn rank(row: &[u16], prio: &[u8], count: usize, priority: u8) -> usize
     requires { ⌜ length (now prio) ≡ taskPlaces ⌝ }
     requires { ⌜ ((i : ℕ) → i < count → getD (now row) i 0 < taskPlaces) ⌝ }
     requires { ⌜ Falling (λ u. getD (now prio) u 0) (take count (now row)) ⌝ }
-    ensures { λ r. ⌜ r ≡ ahead (λ u. ltb (getD (now (prio .entry)) u 0) priority) (take count (now (row .entry))) ⌝ }
+    ensures { λ r. ⌜ r ≡ ahead (λ u. ltb (getD (old prio) u 0) priority) (take count (old row)) ⌝ }
 {
     let mut at = count;
     while at > 0 {
@@ -74,7 +75,7 @@ fn rank(row: &[u16], prio: &[u8], count: usize, priority: u8) -> usize
 fn shift_down(row: &mut [u16], at: usize, count: usize)
     requires { ⌜ at < count ⌝ }
     requires { ⌜ count ≤ length (now row) ⌝ }
-    ensures { λ u. ⌜ Closed at count (now (row .entry)) (now (row .exit)) ⌝ }
+    ensures { λ u. ⌜ Closed at count (old row) (new row) ⌝ }
 {
     let mut i = at + 1;
     while i < count {
@@ -88,7 +89,7 @@ fn shift_down(row: &mut [u16], at: usize, count: usize)
 fn shift_up(row: &mut [u16], at: usize, count: usize)
     requires { ⌜ at ≤ count ⌝ }
     requires { ⌜ count < length (now row) ⌝ }
-    ensures { λ u. ⌜ Opened at count (now (row .entry)) (now (row .exit)) ⌝ }
+    ensures { λ u. ⌜ Opened at count (old row) (new row) ⌝ }
 {
     let mut i = count;
     while at < i {

@@ -2,6 +2,7 @@
 ghost use mathlib.Core.Path.{_≡_};
 ghost use Prim.Native.Nat.{_<_};
 ghost use lib.ListN.{length, getD};
+ghost use Rattle.bits.specs.Moments.{old, new};
 ghost use Rattle.rules.specs.Lists.{In, delete};
 ghost use Rattle.rules.specs.Machine.{taskPlaces, queued};
 ghost use Rattle.rules.specs.Tables.{flatOf, rowCounts};
@@ -13,8 +14,9 @@ pub fn dequeue(rows: &mut [u16], counts: &mut [u16], cpu: usize, task: u16)
     requires { ⌜ HoldsRows (now counts) (now rows) ⌝ }
     requires { ⌜ cpu < length (now counts) ⌝ }
     requires { ⌜ In task (rowAt (now counts) (now rows) cpu) ⌝ }
-    ensures { λ u. ⌜ now (rows .exit) ≡ flatOf (rowsWith (now (counts .entry)) (now (rows .entry)) cpu (delete task (rowAt (now (counts .entry)) (now (rows .entry)) cpu))) ⌝ }
-    ensures { λ u. ⌜ now (counts .exit) ≡ rowCounts (rowsWith (now (counts .entry)) (now (rows .entry)) cpu (delete task (rowAt (now (counts .entry)) (now (rows .entry)) cpu))) ⌝ }
+    ensures { λ u. let left = rowsWith (old counts) (old rows) cpu (delete task (rowAt (old counts) (old rows) cpu)) in
+        ⌜ new rows ≡ flatOf left ⌝
+        ∗ ⌜ new counts ≡ rowCounts left ⌝ }
 {
     let start = cpu * row::PLACES;
     let count = counts[cpu] as usize;
@@ -30,8 +32,10 @@ pub fn enqueue(rows: &mut [u16], counts: &mut [u16], prio: &[u8], cpu: usize, ta
     requires { ⌜ task < taskPlaces ⌝ }
     requires { ⌜ length (now prio) ≡ taskPlaces ⌝ }
     requires { ⌜ Joinable (now prio) (rowAt (now counts) (now rows) cpu) ⌝ }
-    ensures { λ u. ⌜ now (rows .exit) ≡ flatOf (rowsWith (now (counts .entry)) (now (rows .entry)) cpu (queued (λ u. getD (now (prio .entry)) u 0) task (rowAt (now (counts .entry)) (now (rows .entry)) cpu))) ⌝ }
-    ensures { λ u. ⌜ now (counts .exit) ≡ rowCounts (rowsWith (now (counts .entry)) (now (rows .entry)) cpu (queued (λ u. getD (now (prio .entry)) u 0) task (rowAt (now (counts .entry)) (now (rows .entry)) cpu))) ⌝ }
+    ensures { λ u. let longer = queued (λ u. getD (old prio) u 0) task (rowAt (old counts) (old rows) cpu) in
+        let left = rowsWith (old counts) (old rows) cpu longer in
+        ⌜ new rows ≡ flatOf left ⌝
+        ∗ ⌜ new counts ≡ rowCounts left ⌝ }
 {
     let start = cpu * row::PLACES;
     let count = counts[cpu] as usize;

@@ -2,6 +2,7 @@
 ghost use mathlib.Core.Path.{_≡_};
 ghost use Prim.Native.Nat.{_≤_};
 ghost use lib.ListN.{length};
+ghost use Rattle.bits.specs.Moments.{old};
 ghost use Rattle.rules.specs.Machine.{taskPlaces, cpuPlaces};
 ghost use Rattle.rowcheck.specs.Says.{Says};
 ghost use Rattle.wellformed.specs.Passes.{task, rangesFit, soundWhen, Columns};
@@ -25,7 +26,7 @@ pub fn columns_fit(
     requires { ⌜ n ≤ cpuPlaces ⌝ }
     requires { ⌜ (length (now state) ≡ taskPlaces) × (length (now policy) ≡ taskPlaces) × (length (now prio) ≡ taskPlaces) ⌝ }
     requires { ⌜ (length (now cpu) ≡ taskPlaces) × (length (now slice) ≡ taskPlaces) × (length (now mask) ≡ taskPlaces) ⌝ }
-    ensures { λ b. ⌜ Says b (Columns n (now (state .entry)) (now (policy .entry)) (now (prio .entry)) (now (cpu .entry)) (now (slice .entry)) (now (mask .entry)) (now (marks .entry))) ⌝ }
+    ensures { λ b. ⌜ Says b (Columns n (old state) (old policy) (old prio) (old cpu) (old slice) (old mask) (old marks)) ⌝ }
 {
     let mut t = 0;
     while t < PLACES {

@@ -3,6 +3,7 @@ ghost use mathlib.Core.Path.{_≡_};
 ghost use mathlib.Core.Bool.{true};
 ghost use Prim.Native.Nat.{ℕ, _*_, _≤_};
 ghost use lib.ListN.{length};
+ghost use Rattle.bits.specs.Moments.{old};
 ghost use Rattle.rules.specs.Machine.{taskPlaces, cpuPlaces};
 ghost use Rattle.rowcheck.specs.Says.{Says};
 ghost use Rattle.rowcheck.specs.Placed.{mark};
@@ -32,8 +33,8 @@ pub fn rows_fit(
     requires { ⌜ n ≤ cpuPlaces ⌝ }
     requires { ⌜ (length (now state) ≡ taskPlaces) × (length (now prio) ≡ taskPlaces) × (length (now cpu) ≡ taskPlaces) ⌝ }
     requires { ⌜ (length (now rows) ≡ taskPlaces * n) × (length (now counts) ≡ n) × (length (now flags) ≡ n) ⌝ }
-    ensures { λ p. ⌜ Says (p .fit) (Rows n (now (state .entry)) (now (prio .entry)) (now (cpu .entry)) (now (rows .entry)) (now (counts .entry)) (now (flags .entry)) levels) ⌝ }
-    ensures { λ p. ⌜ (p .fit ≡ true → (u : ℕ) → mark (p .marks) u ≡ standings (now (counts .entry)) (now (rows .entry)) n u) ⌝ }
+    ensures { λ p. ⌜ Says (p .fit) (Rows n (old state) (old prio) (old cpu) (old rows) (old counts) (old flags) levels) ⌝ }
+    ensures { λ p. ⌜ (p .fit ≡ true → (u : ℕ) → mark (p .marks) u ≡ standings (old counts) (old rows) n u) ⌝ }
 {
     let mut marks = [0; WORDS];
     let mut c = 0;

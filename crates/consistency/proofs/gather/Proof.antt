@@ -17,6 +17,8 @@ use Rattle.consistency.specs.Consistent.{levelFits, levelsFit, joined}
 use Rattle.consistency.proofs.Agrees.{fit-at, fit-all, masks-next}
 use Rattle.consistency.proofs.gather.Statement.{statement}
 use Rattle.consistency.proofs.gather.Tie as tie
+use Rattle.consistency.proofs.gather.Proof.Paths as at
+mod Paths
 
 none : {k : ℕ} → k < 0 → ⊥
 none h = omega arith
@@ -28,7 +30,7 @@ abbrev μ-loop : tie.MeasureT-loop
 μ-loop n levels right₀ cpu₀ right cpu = 64 - cpu
 
 loop-holds : tie.Need-loop-holds Inv-loop μ-loop
-loop-holds c = (omega arith, (λ k h. absurd (none h)), c .pre .1)
+loop-holds c = (omega arith, (λ k h. absurd (none h)), at.loop-holds c .pre .1)
 
 element-copy-out-level : tie.Need-element-copy-out-level Inv-loop μ-loop
 element-copy-out-level c = omega arith
@@ -38,11 +40,12 @@ level-fits-requires c κs = search needs
 
 returns : tie.Need-returns Inv-loop μ-loop
 returns c =
-    let levels = c .before .before .before .before .before .args .levels .now in
-    let cpu = c .before .before .before .before .loop .cpu in
-    let n = c .before .before .before .before .before .args .n in
-    let size : length levels ≡ 64 = c .before .before .before .before .before .pre .0 in
-    let bad : levelFits n cpu (getD levels cpu 0) ≡ false = sym (c .before .level-fits .ensures) ∙ not-true (c .before .level-fits .result) (c .if1 .taken) in
+    let k = at.returns c in
+    let levels = k .args .levels .now in
+    let cpu = k .loop .cpu in
+    let n = k .args .n in
+    let size : length levels ≡ 64 = k .pre .0 in
+    let bad : levelFits n cpu (getD levels cpu 0) ≡ false = sym (k .level-fits .ensures) ∙ not-true (k .level-fits .result) (k .if1 .taken) in
     let unfit : levelsFit n levels ≡ false = fails (levelsFit n levels) (λ e. false≢true (sym bad ∙ fit-at n levels e cpu (omega arith))) in
     (sym unfit, (λ e. absurd (false≢true (sym unfit ∙ e))))
 
@@ -57,32 +60,33 @@ loop-less c = omega arith
 
 loop-again : tie.Need-loop-again Inv-loop μ-loop
 loop-again c =
-    let levels = c .before .before .before .before .before .before .before .args .levels .now in
-    let before = c .before .before .before .before .before .before .loop in
-    let n = c .before .before .before .before .before .before .before .args .n in
-    let size : length levels ≡ 64 = c .before .before .before .before .before .before .before .pre .0 in
+    let p = at.loop-again c in
+    let levels = p .args .levels .now in
+    let before = p .loop in
+    let n = p .args .n in
+    let size : length levels ≡ 64 = p .pre .0 in
     let good : levelFits n (before .cpu) (getD levels (before .cpu) 0) ≡ true =
-    sym (c .before .before .before .level-fits .ensures) ∙ not-false (c .before .before .before .level-fits .result) (c .before .before .if1 .left) in (
+    sym (p .level-fits .ensures) ∙ not-false (p .level-fits .result) (p .if1 .left) in (
       omega arith,
       below-more _ _ (before .inv .1) good,
-      c .join .ensures ∙ ap (λ (ms : List ℕ). joined ms (before .cpu) (getD levels (before .cpu) 0)) (before .inv .2)
+      p .join .ensures ∙ ap (λ (ms : List ℕ). joined ms (before .cpu) (getD levels (before .cpu) 0)) (before .inv .2)
           ∙ sym (masks-next levels (before .cpu) (omega arith)) ∙ ap (λ (k : ℕ). masksOf (take k levels)) (sym (add-one (before .cpu))),
     )
 
 returns-2 : tie.Need-returns-2 Inv-loop μ-loop
 returns-2 c =
-    let levels = c .before .before .args .levels .now in
-    let n = c .before .before .args .n in
-    let size : length levels ≡ 64 = c .before .before .pre .0 in
-    let all : c .before .loop .cpu ≡ 64 = omega arith in (
-      sym (fit-all n levels (λ k h. c .before .loop .inv .1 k (omega arith))),
-      (λ e. c .before .loop .inv .2 ∙ ap masksOf (take-all (c .before .loop .cpu) levels (omega arith))),
+    let p = at.returns-2 c in
+    let levels = p .args .levels .now in
+    let n = p .args .n in
+    let size : length levels ≡ 64 = p .pre .0 in
+    let all : p .loop .cpu ≡ 64 = omega arith in (
+      sym (fit-all n levels (λ k h. p .loop .inv .1 k (omega arith))),
+      (λ e. p .loop .inv .2 ∙ ap masksOf (take-all (p .loop .cpu) levels (omega arith))),
     )
 
 pub gather-spec : {M : Type 1} → statement M
 gather-spec =
-    tie.close
-    (tie.spec
+    at.close
     Inv-loop
     μ-loop
     loop-holds
@@ -93,4 +97,4 @@ gather-spec =
     add-cpu
     loop-less
     loop-again
-    returns-2)
+    returns-2

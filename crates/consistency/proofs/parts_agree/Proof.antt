@@ -17,6 +17,8 @@ use Rattle.levels.specs.declared.record.Record.{Record}
 use Rattle.consistency.proofs.Agrees.{levelTest, test-passes, top-clear, tests-agree}
 use Rattle.consistency.proofs.parts_agree.Statement.{statement}
 use Rattle.consistency.proofs.parts_agree.Tie as tie
+use Rattle.consistency.proofs.parts_agree.Proof.Paths as at
+mod Paths
 
 none : {k : ℕ} → k < 0 → ⊥
 none h = omega arith
@@ -68,12 +70,13 @@ level-agrees-requires c κs = omega arith
 
 returns : tie.Need-returns Inv-loop μ-loop
 returns c =
-    let a = c .before .before .before .before .before .before .before .before in
+    let k = at.returns c in
+    let a = k .start in
     λ levels size right.
     let r = with-levels a levels in
-    let level = c .before .before .before .before .before .before .before .loop .level in
+    let level = k .loop .level in
     let h : level < 102 = omega arith in
-    let bad : levelTest r (a .args .right .now) level ≡ false = sym (c .before .level-agrees .ensures) ∙ not-true (c .before .level-agrees .result) (c .if1 .taken) in
+    let bad : levelTest r (a .args .right .now) level ≡ false = sym (k .level-agrees .ensures) ∙ not-true (k .level-agrees .result) (k .if1 .taken) in
     let bad′ : levelTest r (masksOf (r .levels)) level ≡ false = subst (λ (ms : List ℕ). levelTest r ms level ≡ false) right bad in
     sym (fails (agrees r) (λ e. false≢true (sym bad′ ∙ test-passes r size e level h)))
 
@@ -85,25 +88,26 @@ loop-less c = omega arith
 
 loop-again : tie.Need-loop-again Inv-loop μ-loop
 loop-again c =
-    let before = c .before .before .before .before .before .before .before .loop in
-    (omega arith, below-more _ _ (before .inv .1) (sym (c .before .level-agrees .ensures) ∙ not-false (c .before .level-agrees .result) (c .if1 .left)))
+    let k = at.loop-again c in
+    let before = k .loop in
+    (omega arith, below-more _ _ (before .inv .1) (sym (k .level-agrees .ensures) ∙ not-false (k .level-agrees .result) (k .if1 .left)))
 
 element-copy-out-result : tie.Need-element-copy-out-result Inv-loop μ-loop
 element-copy-out-result c = omega arith
 
 returns-2 : tie.Need-returns-2 Inv-loop μ-loop
 returns-2 c =
-    let a = c .before .before .before in
+    let p = at.returns-2 c in
+    let a = p .start in
     λ levels size right.
     let r = with-levels a levels in
     let tests : (k : ℕ) → k < 102 → levelTest r (masksOf (r .levels)) k ≡ true =
-    λ k h. subst (λ (ms : List ℕ). levelTest r ms k ≡ true) right (c .before .before .loop .inv .1 k (omega arith)) in
+    λ k h. subst (λ (ms : List ℕ). levelTest r ms k ≡ true) right (p .loop .inv .1 k (omega arith)) in
     last r size tests (eqb (getD (r .words) 1 0 / 2 ^ 38) 0) refl
 
 pub parts-agree-spec : {M : Type 1} → statement M
 parts-agree-spec =
-    tie.close
-    (tie.spec
+    at.close
     Inv-loop
     μ-loop
     loop-holds
@@ -120,4 +124,4 @@ parts-agree-spec =
     loop-less
     loop-again
     element-copy-out-result
-    returns-2)
+    returns-2

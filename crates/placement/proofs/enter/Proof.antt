@@ -1,5 +1,4 @@
 -- `placement::enter` meets its contract. Assumes nothing.
-use borrow.Author.Needs.{needs}
 use mathlib.Core.Path.{_≡_, refl, sym, ap, _∙_, subst}
 use mathlib.Core.Bool.{true}
 use mathlib.Core.List.{List}
@@ -23,6 +22,8 @@ use Rattle.placement.proofs.Levels.{row-level-known}
 use Rattle.placement.proofs.Order.{holds, read-row, whole, cpus-counted, fine-queued, held-row, levels-set, above, level-first, first-in}
 use Rattle.placement.proofs.enter.Statement.{statement}
 use Rattle.placement.proofs.enter.Tie as tie
+use Rattle.placement.proofs.enter.Proof.Paths as at
+mod Paths
 
 module _ {ps ks flat : List ℕ} {r : Record} {t c : ℕ} (m : Machine) (l : Entering m ps ks flat r t c) where
   abbrev joined : List ℕ
@@ -43,10 +44,12 @@ module _ {ps ks flat : List ℕ} {r : Record} {t c : ℕ} (m : Machine) (l : Ent
   same-queue : queued (λ (u : ℕ). getD ps u 0) t (rowAt ks flat c) ≡ joined
   same-queue = ap (λ (qs : List ℕ). queued (λ (u : ℕ). getD qs u 0) t (rowAt ks flat c)) (l .held .prio) ∙ ap (queued (prioOf m) t) row-is
 
-  -- what the tables hold once the task has entered
-  after : (ks′ flat′ : List ℕ) → ks′ ≡ rowCounts (rowsWith ks flat c (queued (λ (u : ℕ). getD ps u 0) t (rowAt ks flat c)))
-      → flat′ ≡ flatOf (rowsWith ks flat c (queued (λ (u : ℕ). getD ps u 0) t (rowAt ks flat c))) → Held entered ps ks′ flat′ (recordOf (levels entered))
-  after ks′ flat′ ek ef =
+  -- the rows once the task has entered, and what the tables then hold
+  abbrev left : List (List ℕ)
+  left = rowsWith ks flat c (queued (λ (u : ℕ). getD ps u 0) t (rowAt ks flat c))
+
+  after : {ks′ flat′ : List ℕ} → ks′ ≡ rowCounts left → flat′ ≡ flatOf left → Held entered ps ks′ flat′ (recordOf (levels entered))
+  after {ks′} {flat′} ek ef =
       held-row m ps ks flat r c joined (l .held) (l .cpu) (fine-queued m t c (l .held .order) (l .task) (l .high) (l .room)) ks′ flat′
       (ek ∙ ap (λ (q : List ℕ). rowCounts (rowsWith ks flat c q)) same-queue)
       (ef ∙ ap (λ (q : List ℕ). flatOf (rowsWith ks flat c q)) same-queue)
@@ -66,7 +69,7 @@ module _ {ps ks flat : List ℕ} {r : Record} {t c : ℕ} (m : Machine) (l : Ent
     first-ok : (getD flat′ (c * taskPlaces) 0 < taskPlaces) × (getD ps (getD flat′ (c * taskPlaces) 0) 0 ≤ highestPriority)
     first-ok = above entered ps ks′ flat′ r′ h c _ (first-in ks′ flat′ (holds entered ps ks′ flat′ r′ h) c here some)
 
-    module _ (v : ℕ) (e : v ≡ levelOf (getD ps (getD flat′ (c * taskPlaces) 0) 0)) where
+    module _ {v : ℕ} (e : v ≡ levelOf (getD ps (getD flat′ (c * taskPlaces) 0) 0)) where
       -- the level that was worked out is the CPU's
       level-is : v ≡ rowLevel (prioOf m) (flag m c) joined
       level-is =
@@ -82,11 +85,15 @@ module _ {ps ks flat : List ℕ} {r : Record} {t c : ℕ} (m : Machine) (l : Ent
       levels-after : set (r .levels) c v ≡ levels (enqueue t c m)
       levels-after = levels-set m ps ks flat r c joined (l .held) (l .cpu) v level-is
 
+-- ---- the needs
+
 enqueue-requires : tie.Need-enqueue-requires
-enqueue-requires c κs = let a = c .before .before .before .before .before .before in
-    let m = a .pre .0 .0 in
-    let l = a .pre .0 .1 in
-    let row-is = read-row m _ _ _ _ (l .held) (a .args .cpu) in (
+enqueue-requires c κs =
+    let k = at.enqueue-requires c in
+    let m = k .pre .0 .0 in
+    let l = k .pre .0 .1 in
+    let cpu = k .args .cpu in
+    let row-is = read-row m _ _ _ _ (l .held) cpu in (
       holds m _ _ _ _ (l .held),
       (
         omega (arith, cpus-counted m _ _ _ _ (l .held), l .cpu),
@@ -96,7 +103,7 @@ enqueue-requires c κs = let a = c .before .before .before .before .before .befo
             ap length (l .held .prio) ∙ l .held .order .prios,
             record {
               room = subst (λ (q : List ℕ). length q < taskPlaces) (sym row-is) (l .room);
-              tasks = λ u i. above m _ _ _ _ (l .held) (a .args .cpu) u i .0;
+              tasks = λ u i. above m _ _ _ _ (l .held) cpu u i .0;
               falling = joinable m l;
             },
           ),
@@ -105,61 +112,56 @@ enqueue-requires c κs = let a = c .before .before .before .before .before .befo
     )
 
 cast-cpus : tie.Need-cast-cpus
-cast-cpus c = let l = c .before .before .before .before .before .before .before .before .before .before .before .pre .0 .1 in omega (arith, l .cpu, l .held .order .cpus)
+cast-cpus c = let l = at.cast-cpus c .pre .0 .1 in omega (arith, l .cpu, l .held .order .cpus)
 
 slice-write-cpus : tie.Need-slice-write-cpus
-slice-write-cpus c = let l = c .before .before .before .before .before .before .before .before .before .before .before .pre .0 .1 in omega (arith, l .task, c .before .before .before .before .before .before .before .before .before .before .before .pre .1)
+slice-write-cpus c =
+    let p = at.slice-write-cpus c .pre in
+    let l = p .0 .1 in
+    omega (arith, l .task, p .1)
 
 first-level-requires : tie.Need-first-level-requires
-first-level-requires c κs = let a = c .before .before .before .before .before .before .before .before .before .before .before .before in
-    let l = a .pre .0 .1 in
-    let h = after (a .pre .0 .0) l (c .before .before .before .before .before .enqueue .last .1 .0) (c .before .before .before .before .before .enqueue .last .0) (c .before .before .before .before .before .enqueue .ensures .1) (c .before .before .before .before .before .enqueue .ensures .0) in
-    let m′ = entered (a .pre .0 .0) l in
-    let first = first-ok (a .pre .0 .0) l h in
-    let f = rows-fit _ _ (holds m′ _ _ _ _ h) (a .args .cpu) (here (a .pre .0 .0) l h) in
+first-level-requires c κs =
+    let k = at.first-level-requires c in
+    let m = k .pre .0 .0 in
+    let l = k .pre .0 .1 in
+    let h = after m l (k .enqueue .ensures .1) (k .enqueue .ensures .0) in
+    let first = first-ok m l h in
+    let f = rows-fit _ _ (holds (entered m l) _ _ _ _ h) (k .args .cpu) (here m l h) in
     (omega arith, (ap length (l .held .prio) ∙ l .held .order .prios, (first .0, first .1)))
 
 set-level-requires : tie.Need-set-level-requires
-set-level-requires c κs = let a = c .before .before .before .before .before .before .before .before .before .before .before .before .before .before .before .before .before in
-    let l = a .pre .0 .1 in
-    let h = after (a .pre .0 .0) l (c .before .before .before .before .before .before .before .before .before .before .enqueue .last .1 .0) (c .before .before .before .before .before .before .before .before .before .before .enqueue .last .0) (c .before .before .before .before .before .before .before .before .before .before .enqueue .ensures .1) (c .before .before .before .before .before .before .before .before .before .before .enqueue .ensures .0) in (
-      whole (a .pre .0 .0) _ _ _ _ (l .held),
-      (omega (arith, l .held .order .cpus, l .cpu), level-ok (a .pre .0 .0) l h (c .before .before .before .before .first-level .result .number) (c .before .before .before .before .first-level .ensures)),
-    )
-
-same-length : tie.Need-same-length
-same-length c = search needs
-
-same-length-2 : tie.Need-same-length-2
-same-length-2 c = search needs
-
-same-length-3 : tie.Need-same-length-3
-same-length-3 c = search needs
+set-level-requires c κs =
+    let k = at.set-level-requires c in
+    let m = k .pre .0 .0 in
+    let l = k .pre .0 .1 in
+    let h = after m l (k .enqueue .ensures .1) (k .enqueue .ensures .0) in
+    (whole m _ _ _ _ (l .held), (omega (arith, l .held .order .cpus, l .cpu), level-ok m l h (k .first-level .ensures)))
 
 returns : tie.Need-returns
-returns c = (
-  λ m l.
-      let h = after m l (c .before .before .before .before .before .before .before .before .before .before .before .enqueue .last .1 .0) (c .before .before .before .before .before .before .before .before .before .before .before .enqueue .last .0) (c .before .before .before .before .before .before .before .before .before .before .before .enqueue .ensures .1) (c .before .before .before .before .before .before .before .before .before .before .before .enqueue .ensures .0) in
-      record {
-        order = record { cpus = h .order .cpus; rows = h .order .rows; prios = h .order .prios; fits = h .order .fits; tasks = h .order .tasks; high = h .order .high; flags = h .order .flags; falling = h .order .falling };
-        prio = h .prio;
-        counts = h .counts;
-        rows = h .rows;
-        levels = c .set-level .ensures ∙ ap recordOf (levels-after m l h (c .before .before .before .before .before .first-level .result .number) (c .before .before .before .before .before .first-level .ensures));
-      },
-  refl,
-)
+returns c =
+    let k = at.returns c in (
+      λ m l.
+          let h = after m l (k .enqueue .ensures .1) (k .enqueue .ensures .0) in
+          let o = h .order in
+          record {
+            order = record {
+              cpus = o .cpus;
+              rows = o .rows;
+              prios = o .prios;
+              fits = o .fits;
+              tasks = o .tasks;
+              high = o .high;
+              flags = o .flags;
+              falling = o .falling;
+            };
+            prio = h .prio;
+            counts = h .counts;
+            rows = h .rows;
+            levels = k .set-level .ensures ∙ ap recordOf (levels-after m l h (k .first-level .ensures));
+          },
+      refl,
+    )
 
 pub enter-spec : {M : Type 1} → statement M
-enter-spec =
-    tie.close
-    (tie.spec
-    enqueue-requires
-    cast-cpus
-    slice-write-cpus
-    first-level-requires
-    set-level-requires
-    same-length
-    same-length-2
-    same-length-3
-    returns)
+enter-spec = at.close enqueue-requires cast-cpus slice-write-cpus first-level-requires set-level-requires returns

@@ -1,9 +1,9 @@
 -- `cpupri::find::find` meets its contract: the tests on the way are the checks in their order. Assumes nothing.
 use borrow.Author.Needs.{needs}
 use mathlib.Core.Path.{_≡_, refl, sym, ap, _∙_}
-use mathlib.Core.Bool.{Bool, not, cond}
+use mathlib.Core.Bool.{Bool, true, false, not, cond}
 use Prim.Native.Nat.{ℕ}
-use lib.Dec.{leb}
+use lib.Dec.{leb, ltb}
 use lib.ListN.{getD}
 use mir.Syntax.{w64}
 use mir.Val.{Fits}
@@ -15,6 +15,8 @@ use Rattle.cpupri.specs.Found.{Answer, unless, refusal, sizeFits, maskFi
 use Rattle.levels.specs.declared.record.Record.{Record}
 use Rattle.cpupri.proofs.find.find.Statement.{statement}
 use Rattle.cpupri.proofs.find.find.Tie as tie
+use Rattle.cpupri.proofs.find.find.Proof.Paths as at
+mod Paths
 
 -- the answer by what the four checks say
 abbrev answer : Bool → Bool → Bool → Bool → Answer → Answer
@@ -26,15 +28,30 @@ found-is : (n : ℕ) (r : Record) (level mask : ℕ) {size good high fit : Bool}
 unfolding found findChecks refusal
 found-is n r level mask p q s t = λ i. answer (p i) (q i) (s i) (t i) (answerOf (lowestFound (r .masks) level mask))
 
+-- ---- the checks that were passed
+
+size-fits : (c : tie.Else1) → sizeFits (at.else1 c .args .n) ≡ true
+unfolding sizeFits
+size-fits c = let k = at.else1 c in not-false (sizeFits (k .args .n)) (k .if1 .left)
+
+good : (c : tie.Else2) → let a = at.else2 c .args in consistent (a .n) (a .t2) ≡ true
+good c = let k = at.else2 c in sym (k .is-consistent .ensures) ∙ not-false (k .is-consistent .result) (k .if2 .left)
+
+low : (c : tie.Else3) → leb levelCount (at.else3 c .args .level) ≡ false
+low c = let k = at.else3 c in lt-leb 102 (k .args .level) (k .if3 .left)
+
+-- ---- the needs
+
 returns : tie.Need-returns
 unfolding sizeFits
 returns c =
-    let a = c .before .args in
-    sym (found-is (a .n) (a .t2) (a .level) (a .mask) (not-true (sizeFits (a .n)) (c .if1 .taken)) refl refl refl)
+    let k = at.returns c in
+    let a = k .args in
+    sym (found-is (a .n) (a .t2) (a .level) (a .mask) (not-true (sizeFits (a .n)) (k .if1 .taken)) refl refl refl)
 
 is-consistent-requires : tie.Need-is-consistent-requires
 is-consistent-requires c κs =
-    let r = c .before .before .before .before .before .before .args .t2 in
+    let r = at.is-consistent-requires c .args .t2 in
     record {
       masks = search needs;
       counts = search needs;
@@ -45,47 +62,42 @@ is-consistent-requires c κs =
     }
 
 returns-2 : tie.Need-returns-2
-unfolding sizeFits
 returns-2 c =
-    let a = c .before .before .before .before .before .before .before .before .args in
-    sym (found-is (a .n) (a .t2) (a .level) (a .mask) (not-false (sizeFits (c .before .before .before .before .before .before .before .before .args .n)) (c .before .before .before .before .before .before .before .if1 .left)) (sym (c .before .is-consistent .ensures) ∙ not-true (c .before .is-consistent .result) (c .if2 .taken)) refl refl)
+    let k = at.returns-2 c in
+    let a = k .args in
+    let bad = sym (k .is-consistent .ensures) ∙ not-true (k .is-consistent .result) (k .if2 .taken) in
+    sym (found-is (a .n) (a .t2) (a .level) (a .mask) (size-fits (k .else1)) bad refl refl)
 
 returns-3 : tie.Need-returns-3
-unfolding sizeFits
 returns-3 c =
-    let a = c .before .before .before .before .before .before .before .before .before .args in
-    sym (found-is (a .n) (a .t2) (a .level) (a .mask) (not-false (sizeFits (c .before .before .before .before .before .before .before .before .before .args .n)) (c .before .before .before .before .before .before .before .before .if1 .left)) (sym (c .before .before .is-consistent .ensures) ∙ not-false (c .before .before .is-consistent .result) (c .before .if2 .left)) (le-leb 102 (a .level) (c .if3 .taken)) refl)
+    let k = at.returns-3 c in
+    let a = k .args in
+    sym (found-is (a .n) (a .t2) (a .level) (a .mask) (size-fits (k .else1)) (good (k .else2)) (le-leb 102 (a .level) (k .if3 .taken)) refl)
 
 mask-fits-requires : tie.Need-mask-fits-requires
 unfolding sizeFits
 mask-fits-requires c κs =
-    let n = c .before .before .before .before .before .before .before .before .before .args .n in
-    leb-true n 64 (and-right (lib.Dec.ltb 0 n) (leb n 64) (not-false (sizeFits (c .before .before .before .before .before .before .before .before .before .args .n)) (c .before .before .before .before .before .before .before .before .if1 .left)))
+    let k = at.mask-fits-requires c in
+    let n = k .args .n in
+    leb-true n 64 (and-right (ltb 0 n) (leb n 64) (size-fits (k .else1)))
 
 returns-4 : tie.Need-returns-4
-unfolding sizeFits
 returns-4 c =
-    let a = c .before .before .before .before .before .before .before .before .before .before .before .args in
-    sym (found-is (a .n) (a .t2) (a .level) (a .mask) (not-false (sizeFits (c .before .before .before .before .before .before .before .before .before .before .before .args .n)) (c .before .before .before .before .before .before .before .before .before .before .if1 .left)) (sym (c .before .before .before .before .is-consistent .ensures) ∙ not-false (c .before .before .before .before .is-consistent .result) (c .before .before .before .if2 .left)) (lt-leb 102 (c .before .before .before .before .before .before .before .before .before .before .before .args .level) (c .before .before .if3 .left)) (sym (c .before .mask-fits .ensures) ∙ not-true (c .before .mask-fits .result) (c .if4 .taken)))
+    let k = at.returns-4 c in
+    let a = k .args in
+    let bad = sym (k .mask-fits .ensures) ∙ not-true (k .mask-fits .result) (k .if4 .taken) in
+    sym (found-is (a .n) (a .t2) (a .level) (a .mask) (size-fits (k .else1)) (good (k .else2)) (low (k .else3)) bad)
 
 lowest-requires : tie.Need-lowest-requires
 lowest-requires c κs = search needs
 
 returns-5 : tie.Need-returns-5
-unfolding sizeFits
 returns-5 c =
-    let a = c .before .before .before .before .before .before .before .before .before .before .before .before .before .before .args in
-    ap answerOf (c .lowest .ensures) ∙ sym (found-is (a .n) (a .t2) (a .level) (a .mask) (not-false (sizeFits (c .before .before .before .before .before .before .before .before .before .before .before .before .before .before .args .n)) (c .before .before .before .before .before .before .before .before .before .before .before .before .before .if1 .left)) (sym (c .before .before .before .before .before .before .before .is-consistent .ensures) ∙ not-false (c .before .before .before .before .before .before .before .is-consistent .result) (c .before .before .before .before .before .before .if2 .left)) (lt-leb 102 (c .before .before .before .before .before .before .before .before .before .before .before .before .before .before .args .level) (c .before .before .before .before .before .if3 .left)) (sym (c .before .before .before .before .mask-fits .ensures) ∙ not-false (c .before .before .before .before .mask-fits .result) (c .before .before .before .if4 .left)))
+    let k = at.returns-5 c in
+    let a = k .args in
+    let fits = sym (k .mask-fits .ensures) ∙ not-false (k .mask-fits .result) (k .if4 .left) in
+    ap answerOf (k .lowest .ensures)
+    ∙ sym (found-is (a .n) (a .t2) (a .level) (a .mask) (size-fits (k .else1)) (good (k .else2)) (low (k .else3)) fits)
 
 pub find-spec : {M : Type 1} → statement M
-find-spec =
-    tie.close
-    (tie.spec
-    returns
-    is-consistent-requires
-    returns-2
-    returns-3
-    mask-fits-requires
-    returns-4
-    lowest-requires
-    returns-5)
+find-spec = at.close returns is-consistent-requires returns-2 returns-3 mask-fits-requires returns-4 lowest-requires returns-5

@@ -1,5 +1,4 @@
 -- `migration::settle::migrate` meets its contract. Assumes nothing.
-use borrow.Author.Needs.{needs}
 use mathlib.Core.Path.{_≡_, sym, ap, _∙_, subst}
 use mathlib.Core.List.{List}
 use Prim.Native.Nat.{ℕ, _<_}
@@ -22,6 +21,8 @@ use Rattle.mover.proofs.Candidates.{tail-in}
 use Rattle.mover.proofs.Choose.{levels-left}
 use Rattle.migration.proofs.settle.migrate.Statement.{statement}
 use Rattle.migration.proofs.settle.migrate.Tie as tie
+use Rattle.migration.proofs.settle.migrate.Proof.Paths as at
+mod Paths
 
 module _ {ps ks flat : List ℕ} {r : Record} {t o d : ℕ} (m : Machine) (s : Stepping m ps ks flat r t o d) where
   abbrev v : Move
@@ -36,12 +37,21 @@ module _ {ps ks flat : List ℕ} {r : Record} {t o d : ℕ} (m : Machine) (s : S
   stands : In t (row m o)
   stands = tail-in t (row m o) (k .waits)
 
+  -- the rows that it leaves
+  abbrev rows′ : List (List ℕ)
+  rows′ = rowsWith ks flat o (delete t (rowAt ks flat o))
+
   -- the mover has left, and can enter the destination's row; every level is as it was
-  entering : (ks′ flat′ : List ℕ) → ks′ ≡ rowCounts (rowsWith ks flat o (delete t (rowAt ks flat o))) → flat′ ≡ flatOf (rowsWith ks flat o (delete t (rowAt ks flat o)))
-      → Entering (dequeue t o m) ps ks′ flat′ r t d
-  entering ks′ flat′ ek ef =
+  entering : {ks′ flat′ : List ℕ} → ks′ ≡ rowCounts rows′ → flat′ ≡ flatOf rows′ → Entering (dequeue t o m) ps ks′ flat′ r t d
+  entering {ks′} {flat′} ek ef =
       record {
-        held = record { order = left .order; prio = left .prio; counts = left .counts; rows = left .rows; levels = s .held .levels ∙ ap recordOf (sym (levels-left m (s .well) v k)) };
+        held = record {
+          order = left .order;
+          prio = left .prio;
+          counts = left .counts;
+          rows = left .rows;
+          levels = s .held .levels ∙ ap recordOf (sym (levels-left m (s .well) v k));
+        };
         cpu = k .small;
         task = runnable-place m t (s .well) (k .runs);
         high = runnable-fit m t (s .well) (k .runs) .prio-high;
@@ -56,38 +66,29 @@ module _ {ps ks flat : List ℕ} {r : Record} {t o d : ℕ} (m : Machine) (s : S
           (ek ∙ ap (λ (q : List ℕ). rowCounts (rowsWith ks flat o (delete t q))) row-is)
           (ef ∙ ap (λ (q : List ℕ). flatOf (rowsWith ks flat o (delete t q))) row-is)
 
+-- ---- the needs
+
 dequeue-requires : tie.Need-dequeue-requires
 dequeue-requires c κs =
-    let a = c .before .before .before .before .before .before in
-    let m = a .pre .0 .0 in
-    let s = a .pre .0 .1 in (
-      holds m _ _ _ _ (s .held),
-      (omega (arith, cpus-counted m _ _ _ _ (s .held), leaves-small m s), subst (In (a .args .task)) (sym (read-row m _ _ _ _ (s .held) (a .args .origin))) (stands m s)),
-    )
+    let k = at.dequeue-requires c in
+    let m = k .pre .0 .0 in
+    let s = k .pre .0 .1 in
+    let there = subst (In (k .args .task)) (sym (read-row m _ _ _ _ (s .held) (k .args .origin))) (stands m s) in
+    (holds m _ _ _ _ (s .held), (omega (arith, cpus-counted m _ _ _ _ (s .held), leaves-small m s), there))
 
 enter-requires : tie.Need-enter-requires
 enter-requires c κs =
-    let a = c .before .before .before .before .before .before .before .before .before .before .before .before .before .before .before .before .before .before in
-    let m = a .pre .0 .0 in
-    let s = a .pre .0 .1 in
-    ((dequeue (a .args .task) (a .args .origin) m, entering m s _ _ (c .before .before .before .before .before .before .before .before .before .before .before .dequeue .ensures .1) (c .before .before .before .before .before .before .before .before .before .before .before .dequeue .ensures .0)), a .pre .1)
-
-same-length : tie.Need-same-length
-same-length c = search needs
-
-same-length-2 : tie.Need-same-length-2
-same-length-2 c = search needs
-
-same-length-3 : tie.Need-same-length-3
-same-length-3 c = search needs
+    let k = at.enter-requires c in
+    let m = k .pre .0 .0 in
+    let s = k .pre .0 .1 in
+    ((dequeue (k .args .task) (k .args .origin) m, entering m s (k .dequeue .ensures .1) (k .dequeue .ensures .0)), k .pre .1)
 
 returns : tie.Need-returns
-returns c = (
-  λ m s. c .before .before .before .before .before .before .enter .ensures .0 (dequeue (c .before .before .before .before .before .before .before .before .before .before .before .before .before .before .before .before .before .before .before .before .before .before .before .before .before .args .task) (c .before .before .before .before .before .before .before .before .before .before .before .before .before .before .before .before .before .before .before .before .before .before .before .before .before .args .origin) m) (entering m s _ _ (c .before .before .before .before .before .before .before .before .before .before .before .before .before .before .before .before .before .before .dequeue .ensures .1) (c .before .before .before .before .before .before .before .before .before .before .before .before .before .before .before .before .before .before .dequeue .ensures .0)),
-  c .before .before .before .before .before .before .enter .ensures .1,
-)
+returns c =
+    let k = at.returns c in (
+      λ m s. k .enter .ensures .0 (dequeue (k .args .task) (k .args .origin) m) (entering m s (k .dequeue .ensures .1) (k .dequeue .ensures .0)),
+      k .enter .ensures .1,
+    )
 
 pub migrate-spec : {M : Type 1} → statement M
-migrate-spec =
-    tie.close
-    (tie.spec dequeue-requires enter-requires same-length same-length-2 same-length-3 returns)
+migrate-spec = at.close dequeue-requires enter-requires returns

@@ -23,6 +23,8 @@ use Rattle.mover.specs.Foremost.{Looking}
 use Rattle.mover.proofs.Candidates.{length-tail, getD-tail, looking-held, looking-rows, looking-cpus, row-is, row-count, part-is-row, searchable, keep-best, new-best}
 use Rattle.mover.proofs.pick.better.Statement.{statement}
 use Rattle.mover.proofs.pick.better.Tie as tie
+use Rattle.mover.proofs.pick.better.Proof.Paths as known
+mod Paths
 
 -- the scan came to the end: nothing that waits is wanted
 none-wanted : (p : ℕ → Bool) (r : List ℕ) → suc (ahead p (tail r)) ≡ length r → (u : ℕ) → In u (tail r) → p u ≡ false
@@ -39,13 +41,18 @@ tail-reach r at h l = go (length-tail r)
     go (inl s) = omega arith
     go (inr z) = absurd (let e : length r ≡ 0 = ap length z in omega arith)
 
-module _ (a : tie.Start) (m : Machine) (k : Looking m (a .args .prio .now) (a .args .mask .now) (a .args .counts .now) (a .args .rows .now) (a .args .masks .now)) (h : a .args .cpu < m .n) where
+-- what the scan looks for: a task above the best so far that has an allowed CPU below its level
+abbrev wants : tie.Start → ℕ → Bool
+wants c = let a = c .args in wanted (a .masks .now) (a .prio .now) (a .mask .now) (a .best .priority)
+
+module _ (a : tie.Start) (m : Machine) (k : Looking m (a .args .prio .now) (a .args .mask .now) (a .args .counts .now) (a .args .rows .now) (a .args .masks .now))
+    (h : a .args .cpu < m .n) where
   -- what the scan says, of the machine's row
   scanned : (at : ℕ)
-      → at ≡ suc (ahead (wanted (a .args .masks .now) (a .args .prio .now) (a .args .mask .now) (a .args .best .priority)) (tail (take (getD (a .args .counts .now) (a .args .cpu) 0) (take (a .args .cpu * 512 + 512 - a .args .cpu * 512) (drop (a .args .cpu * 512) (a .args .rows .now))))))
-      → at ≡ suc (ahead (wanted (a .args .masks .now) (a .args .prio .now) (a .args .mask .now) (a .args .best .priority)) (tail (row m (a .args .cpu))))
+      → at ≡ suc (ahead (wants a) (tail (take (getD (a .args .counts .now) (a .args .cpu) 0) (take (a .args .cpu * 512 + 512 - a .args .cpu * 512) (drop (a .args .cpu * 512) (a .args .rows .now))))))
+      → at ≡ suc (ahead (wants a) (tail (row m (a .args .cpu))))
   scanned at e =
-      e ∙ ap (λ (r : List ℕ). suc (ahead (wanted (a .args .masks .now) (a .args .prio .now) (a .args .mask .now) (a .args .best .priority)) (tail r)))
+      e ∙ ap (λ (r : List ℕ). suc (ahead (wants a) (tail r)))
       (as-counted (a .args .cpu) (λ (s n : ℕ). take (getD (a .args .counts .now) (a .args .cpu) 0) (take n (drop s (a .args .rows .now))) ≡ row m (a .args .cpu)) (part-is-row m _ _ _ _ _ k (a .args .cpu) h))
 
   -- the task at a place of the row
@@ -63,30 +70,36 @@ fits a =
     omega (arith, rows-fit _ _ (looking-rows (a .pre .0) _ _ _ _ _ (a .pre .1 .0)) (a .args .cpu) h)
 
 -- the place that was found is within the row
-within : (c : tie.Else1) → let a = c .before .before .before .before .before .before .before .before in let at = c .before .scan .result in let count = getD (a .args .counts .now) (a .args .cpu) 0 in (1 ≤ at) × (at < count) × (count ≤ 512)
+within : (c : tie.Else1)
+    → let k = known.else1 c in
+    let at = k .scan .result in
+    let count = getD (k .args .counts .now) (k .args .cpu) 0 in
+    (1 ≤ at) × (at < count) × (count ≤ 512)
 within c =
-    let a = c .before .before .before .before .before .before .before .before in
+    let k = known.else1 c in
+    let a = k .start in
     let r = row (a .pre .0) (a .args .cpu) in
     let n = row-count (a .pre .0) _ _ _ _ _ (a .pre .1 .0) (a .args .cpu) (a .pre .1 .1) in
-    let found = scanned a (a .pre .0) (a .pre .1 .0) (a .pre .1 .1) (c .before .scan .result) (c .before .scan .ensures) in
-    let most = ahead-le (wanted (a .args .masks .now) (a .args .prio .now) (a .args .mask .now) (a .args .best .priority)) (tail r) in
+    let found = scanned a (a .pre .0) (a .pre .1 .0) (a .pre .1 .1) (k .scan .result) (k .scan .ensures) in
+    let most = ahead-le (wants a) (tail r) in
     let two : 2 ≤ getD (a .args .counts .now) (a .args .cpu) 0 = a .pre .1 .2 in
     let size : length r ≡ suc (length (tail r)) = nonempty r (omega arith) in
-    (omega arith, omega (arith, c .if1 .left), omega (arith, looking-held (a .pre .0) _ _ _ _ _ (a .pre .1 .0) .order .fits (a .args .cpu)))
+    (omega arith, omega (arith, k .if1 .left), omega (arith, looking-held (a .pre .0) _ _ _ _ _ (a .pre .1 .0) .order .fits (a .args .cpu)))
   where
     nonempty : (r : List ℕ) → 1 ≤ length r → length r ≡ suc (length (tail r))
     nonempty [] h = absurd (not-suc-le-zero h)
     nonempty (x ∷ xs) h = refl
 
 -- and is a task
-task-ok : (c : tie.Else1) → let a = c .before .before .before .before .before .before .before .before in getD (a .args .rows .now) (a .args .cpu * 512 + c .before .scan .result) 0 < 512
+task-ok : (c : tie.Else1) → let k = known.else1 c in getD (k .args .rows .now) (k .args .cpu * 512 + k .scan .result) 0 < 512
 task-ok c =
-    let a = c .before .before .before .before .before .before .before .before in
+    let k = known.else1 c in
+    let a = k .start in
     let m = a .pre .0 in
     let w = within c in
     let n = row-count m _ _ _ _ _ (a .pre .1 .0) (a .args .cpu) (a .pre .1 .1) in
     let size = ap length (row-is m _ _ _ _ _ (a .pre .1 .0) (a .args .cpu) (a .pre .1 .1)) in
-    let at = c .before .scan .result in
+    let at = k .scan .result in
     subst (λ (u : ℕ). u < 512)
     (sym (place-at (a .args .counts .now) (a .args .rows .now) (looking-rows m _ _ _ _ _ (a .pre .1 .0)) (a .args .cpu) (omega (arith, looking-cpus m _ _ _ _ _ (a .pre .1 .0), a .pre .1 .1)) at (omega arith)))
     (above m _ _ _ _ (looking-held m _ _ _ _ _ (a .pre .1 .0)) (a .args .cpu) _ (in-getD (rowAt (a .args .counts .now) (a .args .rows .now) (a .args .cpu)) at (omega arith)) .0)
@@ -96,20 +109,20 @@ mul-count c = search needs
 
 shared-slice-read-count : tie.Need-shared-slice-read-count
 shared-slice-read-count c =
-    let a = c .before .before .before .before .before in
+    let a = known.shared-slice-read-count c .start in
     omega (arith, looking-cpus (a .pre .0) _ _ _ _ _ (a .pre .1 .0), a .pre .1 .1)
 
 cast-count : tie.Need-cast-count
-cast-count c = omega (arith, c .shared-slice-known5 .given (c .before .before .before .before .before .args .cpu))
+cast-count c = let k = known.cast-count c in omega (arith, k .shared-slice-known5 .given (k .args .cpu))
 
 mul-start : tie.Need-mul-start
-mul-start c = let f = fits (c .before .before .before .before .before) in omega arith
+mul-start c = let f = fits (known.mul-start c .start) in omega arith
 
 add-scan : tie.Need-add-scan
-add-scan c = let f = fits (c .before .before .before .before .before) in omega arith
+add-scan c = let f = fits (known.add-scan c .start) in omega arith
 
 mul-scan : tie.Need-mul-scan
-mul-scan c = let f = fits (c .before .before .before .before .before) in omega arith
+mul-scan c = let f = fits (known.mul-scan c .start) in omega arith
 
 sub-scan : tie.Need-sub-scan
 sub-scan c = omega arith
@@ -118,60 +131,63 @@ part-scan-start : tie.Need-part-scan-start
 part-scan-start c = omega arith
 
 part-scan-end : tie.Need-part-scan-end
-part-scan-end c = let f = fits (c .before .before .before .before .before) in omega arith
+part-scan-end c = let f = fits (known.part-scan-end c .start) in omega arith
 
 scan-requires : tie.Need-scan-requires
 scan-requires c κs =
-    let a = c .before .before .before .before .before .before in
+    let a = known.scan-requires c .start in
     as-counted (a .args .cpu) (λ (s k : ℕ). Searchable (a .args .prio .now) (a .args .mask .now) (take k (drop s (a .args .rows .now))) (getD (a .args .counts .now) (a .args .cpu) 0))
     (searchable (a .pre .0) _ _ _ _ _ (a .pre .1 .0) (a .args .cpu) (a .pre .1 .1) (omega (arith, a .pre .1 .2)))
 
 returns : tie.Need-returns
 returns c =
     λ m k h best.
-    let a = c .before .before .before .before .before .before .before .before in
+    let p = known.returns c in
+    let a = p .start in
     let r = row m (a .args .cpu) in
     let n = row-count m _ _ _ _ _ k (a .args .cpu) h in
-    let found : c .before .scan .result ≡ suc (ahead (wanted (a .args .masks .now) (a .args .prio .now) (a .args .mask .now) (a .args .best .priority)) (tail r)) = scanned a m k h (c .before .scan .result) (c .before .scan .ensures) in
+    let found : p .scan .result ≡ suc (ahead (wants a) (tail r)) = scanned a m k h (p .scan .result) (p .scan .ensures) in
     keep-best m _ _ _ _ _ k (a .args .cpu) h (a .args .best) best
-    (none-wanted (wanted (a .args .masks .now) (a .args .prio .now) (a .args .mask .now) (a .args .best .priority)) r (omega (arith, c .if1 .taken)))
+    (none-wanted (wants a) r (omega (arith, p .if1 .taken)))
 
 add-task : tie.Need-add-task
-add-task c = let f = fits (c .before .before .before .before .before .before .before .before) in let w = within c in omega arith
+add-task c = let f = fits (known.add-task c .start) in let w = within c in omega arith
 
 mul-task : tie.Need-mul-task
-mul-task c = let f = fits (c .before .before .before .before .before .before .before .before) in let w = within c in omega arith
+mul-task c = let f = fits (known.mul-task c .start) in let w = within c in omega arith
 
 shared-slice-read-task : tie.Need-shared-slice-read-task
-shared-slice-read-task c = let f = fits (c .before .before .before .before .before .before .before .before .before) in let w = within (c .before) in omega arith
+shared-slice-read-task c = let k = known.shared-slice-read-task c in let f = fits (k .start) in let w = within (k .else1) in omega arith
 
 cast-priority : tie.Need-cast-priority
-cast-priority c = omega (arith, c .shared-slice-known6 .given (c .before .before .before .before .before .before .before .before .before .args .cpu * 512 + c .before .before .scan .result))
+cast-priority c = let k = known.cast-priority c in omega (arith, k .shared-slice-known6 .given (k .args .cpu * 512 + k .scan .result))
 
 shared-slice-read-priority : tie.Need-shared-slice-read-priority
 shared-slice-read-priority c =
-    let k = c .before .before .before .before .before .before .before .before .before .before .pre .1 .0 in
-    let t = task-ok (c .before .before) in
+    let p = known.shared-slice-read-priority c in
+    let k = p .pre .1 .0 in
+    let t = task-ok (p .else1) in
     omega (arith, t, ap length (k .prio), k .well .shape .prio)
 
 returns-2 : tie.Need-returns-2
 returns-2 c =
     λ m k h best.
-    let a = c .before .before .before .before .before .before .before .before .before .before in
+    let p = known.returns-2 c in
+    let a = p .start in
     let r = row m (a .args .cpu) in
-    let at = c .before .before .before .scan .result in
+    let at = p .scan .result in
     let n = row-count m _ _ _ _ _ k (a .args .cpu) h in
-    let found : at ≡ suc (ahead (wanted (a .args .masks .now) (a .args .prio .now) (a .args .mask .now) (a .args .best .priority)) (tail r)) = scanned a m k h at (c .before .before .before .scan .ensures) in
-    let w = within (c .before .before) in
-    let index : at - 1 ≡ ahead (wanted (a .args .masks .now) (a .args .prio .now) (a .args .mask .now) (a .args .best .priority)) (tail r) = omega arith in
+    let found : at ≡ suc (ahead (wants a) (tail r)) = scanned a m k h at (p .scan .ensures) in
+    let w = within (p .else1) in
+    let index : at - 1 ≡ ahead (wants a) (tail r) = omega arith in
     let reach : at - 1 < length (tail r) = tail-reach r at (omega arith) (omega arith) in
     let place : getD (a .args .rows .now) (a .args .cpu * 512 + at) 0 ≡ getD (tail r) (at - 1) 0 = task-is a m k h at (omega arith) (omega arith) in
-    new-best m _ _ _ _ _ k (a .args .cpu) h (a .args .best) best (at - 1) index reach _ place refl (ap (λ (u : ℕ). getD (a .args .prio .now) u 0) place ∙ ap (λ (qs : List ℕ). getD qs (getD (tail r) (at - 1) 0) 0) (k .prio))
+    new-best m _ _ _ _ _ k (a .args .cpu) h (a .args .best) best (at - 1) index reach _ place refl
+    (ap (λ (u : ℕ). getD (a .args .prio .now) u 0) place ∙ ap (λ (qs : List ℕ). getD qs (getD (tail r) (at - 1) 0) 0) (k .prio))
 
 pub better-spec : {M : Type 1} → statement M
 better-spec =
-    tie.close
-    (tie.spec
+    known.close
     mul-count
     shared-slice-read-count
     cast-count
@@ -188,4 +204,4 @@ better-spec =
     shared-slice-read-task
     cast-priority
     shared-slice-read-priority
-    returns-2)
+    returns-2

@@ -10,6 +10,8 @@ use Rattle.mover.specs.Foremost.{Looking, BestOf}
 use Rattle.mover.proofs.Candidates.{looking-cpus, skip-best}
 use Rattle.mover.proofs.pick.pick.Statement.{statement}
 use Rattle.mover.proofs.pick.pick.Tie as tie
+use Rattle.mover.proofs.pick.pick.Proof.Paths as at
+mod Paths
 
 abbrev Inv-loop : tie.InvT-loop
 Inv-loop n prio mask rows counts masks best₀ cpu₀ best cpu = (cpu ≤ n) × (cpu < n → 2 ≤ getD counts cpu 0) × ((m : Machine) → Looking m prio mask counts rows masks → n ≡ m .n → BestOf m cpu best)
@@ -22,11 +24,11 @@ counted : (a : tie.Start Inv-loop μ-loop) → a .args .n ≡ length (a .args .c
 counted a = a .pre .1 .1 ∙ sym (looking-cpus (a .pre .0) _ _ _ _ _ (a .pre .1 .0))
 
 next-waiting-requires : tie.Need-next-waiting-requires Inv-loop μ-loop
-next-waiting-requires c κs = let e = counted (c .before .before .before .before) in (omega arith, omega arith)
+next-waiting-requires c κs = let e = counted (at.next-waiting-requires c .start) in (omega arith, omega arith)
 
 loop-holds : tie.Need-loop-holds Inv-loop μ-loop
 loop-holds c =
-    let next = c .next-waiting .ensures in (
+    let next = at.loop-holds c .next-waiting .ensures in (
       next .most,
       next .some,
       λ m k e. skip-best m _ _ _ _ _ k _ 0 _ _ e next (record { none = λ z d h. absurd (not-suc-le-zero h); some = λ p. absurd (not-suc-le-zero p) }),
@@ -34,40 +36,42 @@ loop-holds c =
 
 better-requires : tie.Need-better-requires Inv-loop μ-loop
 better-requires c κs =
-    let a = c .before .before .before .before .before .before .before in
-    (a .pre .0, (a .pre .1 .0, omega (arith, a .pre .1 .1), c .before .loop .inv .1 (omega arith)))
+    let k = at.better-requires c in
+    let a = k .start in
+    (a .pre .0, (a .pre .1 .0, omega (arith, a .pre .1 .1), k .loop .inv .1 (omega arith)))
 
 add-next-waiting : tie.Need-add-next-waiting Inv-loop μ-loop
 add-next-waiting c = omega arith
 
 next-waiting-requires-2 : tie.Need-next-waiting-requires-2 Inv-loop μ-loop
-next-waiting-requires-2 c κs = let e = counted (c .before .before .before .before .before .before .before .before) in (omega arith, omega arith)
+next-waiting-requires-2 c κs = let e = counted (at.next-waiting-requires-2 c .start) in (omega arith, omega arith)
 
 loop-less : tie.Need-loop-less Inv-loop μ-loop
-loop-less c = omega (arith, c .next-waiting2 .ensures .low, c .next-waiting2 .ensures .most)
+loop-less c = let k = at.loop-less c in omega (arith, k .next-waiting2 .ensures .low, k .next-waiting2 .ensures .most)
 
 loop-again : tie.Need-loop-again Inv-loop μ-loop
 loop-again c =
-    let next = c .next-waiting2 .ensures in
-    let l = c .before .before .before .loop in (
+    let p = at.loop-again c in
+    let next = p .next-waiting2 .ensures in
+    let l = p .loop in (
       next .most,
       next .some,
       λ m k e.
           skip-best m _ _ _ _ _ k _ _ _ _ e next
-          (subst (λ (i : ℕ). BestOf m i (c .before .better .result)) (sym (add-one (l .cpu)))
-          (c .before .better .ensures m k (omega (arith, c .before .before .loop-test .taken)) (l .inv .2 m k e))),
+          (subst (λ (i : ℕ). BestOf m i (p .better .result)) (sym (add-one (l .cpu)))
+          (p .better .ensures m k (omega (arith, p .loop-test .taken)) (l .inv .2 m k e))),
     )
 
 returns : tie.Need-returns Inv-loop μ-loop
 returns c =
-    let l = c .before .loop in
-    let all : l .cpu ≡ c .before .before .before .before .before .before .before .args .n = omega arith in
+    let p = at.returns c in
+    let l = p .loop in
+    let all : l .cpu ≡ p .args .n = omega arith in
     λ m k e. subst (λ (i : ℕ). BestOf m i (l .best)) all (l .inv .2 m k e)
 
 pub pick-spec : {M : Type 1} → statement M
 pick-spec =
-    tie.close
-    (tie.spec
+    at.close
     Inv-loop
     μ-loop
     next-waiting-requires
@@ -77,4 +81,4 @@ pick-spec =
     next-waiting-requires-2
     loop-less
     loop-again
-    returns)
+    returns

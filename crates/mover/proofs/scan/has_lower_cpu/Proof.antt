@@ -12,6 +12,8 @@ use Rattle.cpupri.specs.declared.find.Found.{Found}
 use Rattle.cpupri.specs.declared.find.Found.the-variants.{Cpus, Nothing, Refused}
 use Rattle.mover.proofs.scan.has_lower_cpu.Statement.{statement}
 use Rattle.mover.proofs.scan.has_lower_cpu.Tie as tie
+use Rattle.mover.proofs.scan.has_lower_cpu.Proof.Paths as at
+mod Paths
 
 -- a level was found
 abbrev isFound : Found → Bool
@@ -34,10 +36,10 @@ of-priority-requires : tie.Need-of-priority-requires
 of-priority-requires c κs = search needs
 
 cast-below : tie.Need-cast-below
-cast-below c = omega (arith, c .before .of-priority .ensures)
+cast-below c = omega (arith, at.cast-below c .of-priority .ensures)
 
 lowest-requires : tie.Need-lowest-requires
-lowest-requires c κs = omega (arith, c .before .of-priority .ensures, c .before .before .pre)
+lowest-requires c κs = let k = at.lowest-requires c in omega (arith, k .of-priority .ensures, k .pre)
 
 enum-told : tie.Need-enum-told
 enum-told c = search needs
@@ -50,32 +52,34 @@ enum-told-3 c = search needs
 
 returns : tie.Need-returns
 returns c =
-    let a = c .before .before .before .before .before in
-    let below = level-is a (c .before .before .before .before .of-priority .result .number) (c .before .before .before .before .of-priority .ensures) in
-    sym (ap isFound (c .enum-told .given .1)) ∙ ap isFound (c .before .before .lowest .ensures)
+    let k = at.returns c in
+    let a = k .start in
+    let below = level-is a (k .of-priority .result .number) (k .of-priority .ensures) in
+    sym (ap isFound (k .enum-told .given .1)) ∙ ap isFound (k .lowest .ensures)
     ∙ ap (λ (l : ℕ). isFound (lowestFound (a .args .masks .now) l (a .args .mask))) below
     ∙ found-test (a .args .masks .now) (levelOf (a .args .priority)) (a .args .mask)
 
 returns-2 : tie.Need-returns-2
 returns-2 c =
-    let a = c .before .before .before .before .before in
-    let below = level-is a (c .before .before .before .before .of-priority .result .number) (c .before .before .before .before .of-priority .ensures) in
-    sym (ap isFound (c .enum-told2 .given .1)) ∙ ap isFound (c .before .before .lowest .ensures)
+    let k = at.returns-2 c in
+    let a = k .start in
+    let below = level-is a (k .of-priority .result .number) (k .of-priority .ensures) in
+    sym (ap isFound (k .enum-told2 .given .1)) ∙ ap isFound (k .lowest .ensures)
     ∙ ap (λ (l : ℕ). isFound (lowestFound (a .args .masks .now) l (a .args .mask))) below
     ∙ found-test (a .args .masks .now) (levelOf (a .args .priority)) (a .args .mask)
 
 returns-3 : tie.Need-returns-3
 returns-3 c =
-    let a = c .before .before .before .before .before in
-    let below = level-is a (c .before .before .before .before .of-priority .result .number) (c .before .before .before .before .of-priority .ensures) in
-    sym (ap isFound (c .enum-told3 .given .1)) ∙ ap isFound (c .before .before .lowest .ensures)
+    let k = at.returns-3 c in
+    let a = k .start in
+    let below = level-is a (k .of-priority .result .number) (k .of-priority .ensures) in
+    sym (ap isFound (k .enum-told3 .given .1)) ∙ ap isFound (k .lowest .ensures)
     ∙ ap (λ (l : ℕ). isFound (lowestFound (a .args .masks .now) l (a .args .mask))) below
     ∙ found-test (a .args .masks .now) (levelOf (a .args .priority)) (a .args .mask)
 
 pub has-lower-cpu-spec : {M : Type 1} → statement M
 has-lower-cpu-spec =
-    tie.close
-    (tie.spec
+    at.close
     of-priority-requires
     cast-below
     lowest-requires
@@ -84,4 +88,4 @@ has-lower-cpu-spec =
     enum-told-3
     returns
     returns-2
-    returns-3)
+    returns-3

@@ -17,6 +17,8 @@ use Rattle.runqueue.proofs.Places.{ahead-is}
 use Rattle.mover.specs.Wanted.{findable, wanted, Searchable}
 use Rattle.mover.proofs.scan.scan.Statement.{statement}
 use Rattle.mover.proofs.scan.scan.Tie as tie
+use Rattle.mover.proofs.scan.scan.Proof.Paths as known
+mod Paths
 
 none : {k n : ℕ} → n ≤ k → k < n → ⊥
 none h l = omega arith
@@ -99,44 +101,46 @@ abbrev μ-loop : tie.MeasureT-loop
 μ-loop row prio mask masks count floor at₀ at = count - at
 
 loop-holds : tie.Need-loop-holds Inv-loop μ-loop
-loop-holds c = (omega arith, c .before .before .before .pre .some, (λ k h l. absurd (none h l)))
+loop-holds c = (omega arith, known.loop-holds c .pre .some, (λ k h l. absurd (none h l)))
 
 mul-task : tie.Need-mul-task Inv-loop μ-loop
-mul-task c = let m = c .before .before .before .before .before .pre .most in omega arith
+mul-task c = let m = known.mul-task c .pre .most in omega arith
 
 shared-slice-read-task : tie.Need-shared-slice-read-task Inv-loop μ-loop
-shared-slice-read-task c = let m = c .before .before .before .before .before .before .pre .most in omega arith
+shared-slice-read-task c = let m = known.shared-slice-read-task c .pre .most in omega arith
 
 cast-task : tie.Need-cast-task Inv-loop μ-loop
-cast-task c = omega (arith, c .shared-slice-known4 .given (c .before .before .loop .at))
+cast-task c = let k = known.cast-task c in omega (arith, k .shared-slice-known4 .given (k .loop .at))
 
 shared-slice-read-priority : tie.Need-shared-slice-read-priority Inv-loop μ-loop
-shared-slice-read-priority c = let p = c .before .before .before .before .before .before .before .pre in omega (arith, p .tasks (c .before .before .before .loop .at) (omega arith), p .prios)
+shared-slice-read-priority c = let k = known.shared-slice-read-priority c in let p = k .pre in omega (arith, p .tasks (k .loop .at) (omega arith), p .prios)
 
 returns : tie.Need-returns Inv-loop μ-loop
 returns c =
-    let a = c .before .before .before .before .before .before .before .before in
-    let l = c .before .before .before .before .loop in
-    sym (scan-is (a .args .masks .now) (a .args .prio .now) (a .args .mask .now) (a .args .row .now) (a .args .count) (a .args .floor) (a .pre) (a .args .count) (a .pre .some) (omega arith)
-    (λ k h m. past (a .args .masks .now) (a .args .prio .now) (a .args .mask .now) (a .args .row .now) (a .args .count) (a .args .floor) (a .pre) (l .at) (omega arith) (l .inv .2) (omega arith) k h m) (λ h. absurd (self h)))
+    let p = known.returns c in
+    let a = p .args in
+    let l = p .loop in
+    sym (scan-is (a .masks .now) (a .prio .now) (a .mask .now) (a .row .now) (a .count) (a .floor) (p .pre) (a .count) (p .pre .some) (omega arith)
+    (λ k h m. past (a .masks .now) (a .prio .now) (a .mask .now) (a .row .now) (a .count) (a .floor) (p .pre) (l .at) (omega arith) (l .inv .2) (omega arith) k h m) (λ h. absurd (self h)))
 
 mul-has-lower-cpu : tie.Need-mul-has-lower-cpu Inv-loop μ-loop
-mul-has-lower-cpu c = let p = c .before .before .before .before .before .before .before .before .pre in omega (arith, p .tasks (c .before .before .before .before .loop .at) (omega arith))
+mul-has-lower-cpu c = let k = known.mul-has-lower-cpu c in let p = k .pre in omega (arith, p .tasks (k .loop .at) (omega arith))
 
 shared-slice-read-has-lower-cpu : tie.Need-shared-slice-read-has-lower-cpu Inv-loop μ-loop
-shared-slice-read-has-lower-cpu c = let p = c .before .before .before .before .before .before .before .before .before .pre in omega (arith, p .tasks (c .before .before .before .before .before .loop .at) (omega arith), p .masks)
+shared-slice-read-has-lower-cpu c = let k = known.shared-slice-read-has-lower-cpu c in let p = k .pre in omega (arith, p .tasks (k .loop .at) (omega arith), p .masks)
 
 has-lower-cpu-requires : tie.Need-has-lower-cpu-requires Inv-loop μ-loop
-has-lower-cpu-requires c κs = c .before .before .before .before .before .before .before .before .before .pre .high (c .before .before .before .before .before .loop .at) (omega arith)
+has-lower-cpu-requires c κs = let k = known.has-lower-cpu-requires c in k .pre .high (k .loop .at) (omega arith)
 
 returns-2 : tie.Need-returns-2 Inv-loop μ-loop
 unfolding wanted findable
 returns-2 c =
-    let a = c .before .before .before .before .before .before .before .before .before .before .before in
-    let l = c .before .before .before .before .before .before .before .loop in
-    sym (scan-is (a .args .masks .now) (a .args .prio .now) (a .args .mask .now) (a .args .row .now) (a .args .count) (a .args .floor) (a .pre) (l .at) (l .inv .0) (omega arith) (l .inv .2)
-    (λ h. and-both (ltb (a .args .floor) (getD (a .args .prio .now) (getD (a .args .row .now) (l .at) 0) 0)) (findable (a .args .masks .now) (a .args .prio .now) (a .args .mask .now) (getD (a .args .row .now) (l .at) 0))
-    (lt-ltb _ _ (c .before .before .before .if1 .left)) (sym (c .before .has-lower-cpu .ensures) ∙ c .if2 .taken)))
+    let k = known.returns-2 c in
+    let a = k .args in
+    let l = k .loop in
+    sym (scan-is (a .masks .now) (a .prio .now) (a .mask .now) (a .row .now) (a .count) (a .floor) (k .pre) (l .at) (l .inv .0) (omega arith) (l .inv .2)
+    (λ h. and-both (ltb (a .floor) (getD (a .prio .now) (getD (a .row .now) (l .at) 0) 0)) (findable (a .masks .now) (a .prio .now) (a .mask .now) (getD (a .row .now) (l .at) 0))
+    (lt-ltb _ _ (k .if1 .left)) (sym (k .has-lower-cpu .ensures) ∙ k .if2 .taken)))
 
 add-at : tie.Need-add-at Inv-loop μ-loop
 add-at c = omega arith
@@ -147,25 +151,26 @@ loop-less c = omega arith
 loop-again : tie.Need-loop-again Inv-loop μ-loop
 unfolding findable
 loop-again c =
-    let a = c .before .before .before .before .before .before .before .before .before .before .before in
-    let l = c .before .before .before .before .before .before .before .loop in (
+    let p = known.loop-again c in
+    let a = p .args in
+    let l = p .loop in (
       omega arith,
       omega arith,
-      more (λ (k : ℕ). wanted (a .args .masks .now) (a .args .prio .now) (a .args .mask .now) (a .args .floor) (getD (a .args .row .now) k 0) ≡ false) (l .at) (l .inv .2)
-          (unwanted (a .args .masks .now) (a .args .prio .now) (a .args .mask .now) (a .args .floor) (getD (a .args .row .now) (l .at) 0) (sym (c .before .has-lower-cpu .ensures) ∙ c .if2 .left)),
+      more (λ (k : ℕ). wanted (a .masks .now) (a .prio .now) (a .mask .now) (a .floor) (getD (a .row .now) k 0) ≡ false) (l .at) (l .inv .2)
+          (unwanted (a .masks .now) (a .prio .now) (a .mask .now) (a .floor) (getD (a .row .now) (l .at) 0) (sym (p .has-lower-cpu .ensures) ∙ p .if2 .left)),
     )
 
 returns-3 : tie.Need-returns-3 Inv-loop μ-loop
 returns-3 c =
-    let a = c .before .before .before .before .before in
-    let l = c .before .loop in
-    sym (scan-is (a .args .masks .now) (a .args .prio .now) (a .args .mask .now) (a .args .row .now) (a .args .count) (a .args .floor) (a .pre) (a .args .count) (a .pre .some) (omega arith)
+    let p = known.returns-3 c in
+    let a = p .args in
+    let l = p .loop in
+    sym (scan-is (a .masks .now) (a .prio .now) (a .mask .now) (a .row .now) (a .count) (a .floor) (p .pre) (a .count) (p .pre .some) (omega arith)
     (λ k h m. l .inv .2 k h (omega arith)) (λ h. absurd (self h)))
 
 pub scan-spec : {M : Type 1} → statement M
 scan-spec =
-    tie.close
-    (tie.spec
+    known.close
     Inv-loop
     μ-loop
     loop-holds
@@ -181,4 +186,4 @@ scan-spec =
     add-at
     loop-less
     loop-again
-    returns-3)
+    returns-3

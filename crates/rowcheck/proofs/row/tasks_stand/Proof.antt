@@ -17,6 +17,8 @@ use Rattle.rowcheck.proofs.Saying.{yes, no, never}
 use Rattle.rowcheck.proofs.Marking.{digit-le, occ-take, occ-grows}
 use Rattle.rowcheck.proofs.row.tasks_stand.Statement.{statement}
 use Rattle.rowcheck.proofs.row.tasks_stand.Tie as tie
+use Rattle.rowcheck.proofs.row.tasks_stand.Proof.Paths as at
+mod Paths
 
 none : {k : ℕ} → k < 0 → ⊥
 none h = omega arith
@@ -31,56 +33,73 @@ twice marks marks₀ row i count h l e t p =
     omega (arith, occ-take u row i l, digit-same u u refl, occ-grows u (i + 1) count row (omega arith))
 
 abbrev Inv-loop : tie.InvT-loop
-Inv-loop c row count state prio cpu marks₀ bound₀ i₀ marks bound i = (i ≤ count) × (bound ≡ above prio row i) × (AllStand state prio cpu row c i) × (Marks marks₀ row i marks)
+Inv-loop c row count state prio cpu marks₀ bound₀ i₀ marks bound i =
+    (i ≤ count) × (bound ≡ above prio row i) × (AllStand state prio cpu row c i) × (Marks marks₀ row i marks)
 
 abbrev μ-loop : tie.MeasureT-loop
 μ-loop c row count state prio cpu marks₀ bound₀ i₀ marks bound i = count - i
 
+-- ---- the task that is looked at
+
+-- it may stand there, behind a task of priority b
+abbrev Here : tie.At-loop Inv-loop μ-loop → ℕ → Type 0
+Here c b =
+    let k = at.at-loop c in
+    let a = k .args in
+    Stands (a .state .now) (a .prio .now) (a .cpu .now) (a .c) b (getD (a .row .now) (k .loop .i) 0)
+
+here : (c : tie.Else1 Inv-loop μ-loop) → let k = at.else1 c in Here (k .at-loop) (k .loop .bound)
+here c = let k = at.else1 c in yes (k .stands .result) (k .stands .ensures) (not-false (k .stands .result) (k .if1 .left))
+
+-- ---- the needs
+
 loop-holds : tie.Need-loop-holds Inv-loop μ-loop
-loop-holds c = (omega arith, refl, (λ k h. absurd (none h)), (c .before .before .before .before .pre .1 .1, λ u. omega (arith, occ-nil u)))
+loop-holds c = (omega arith, refl, (λ k h. absurd (none h)), (at.loop-holds c .pre .1 .1, λ u. omega (arith, occ-nil u)))
 
 mul-task : tie.Need-mul-task Inv-loop μ-loop
-mul-task c = omega (arith, c .before .before .before .before .before .before .pre .1 .0, c .before .before .before .before .before .before .good)
+mul-task c = let k = at.mul-task c in omega (arith, k .pre .1 .0, k .start .good)
 
 shared-slice-read-task : tie.Need-shared-slice-read-task Inv-loop μ-loop
 shared-slice-read-task c = omega arith
 
 cast-task : tie.Need-cast-task Inv-loop μ-loop
-cast-task c = omega (arith, c .shared-slice-known5 .given (c .before .before .loop .i))
+cast-task c = let k = at.cast-task c in omega (arith, k .shared-slice-known5 .given (k .loop .i))
 
 stands-requires : tie.Need-stands-requires Inv-loop μ-loop
-stands-requires c κs = c .before .before .before .before .before .before .before .pre .0
+stands-requires c κs = at.stands-requires c .pre .0
 
 returns : tie.Need-returns Inv-loop μ-loop
 returns c =
-    let l = c .before .before .before .before .loop in (
+    let k = at.returns c in
+    let l = k .loop in (
       λ p.
-          no (c .before .stands .result) (c .before .stands .ensures) (not-true (c .before .stands .result) (c .if1 .taken))
-          (subst (λ (b : ℕ). Stands (c .before .before .before .before .before .before .before .before .before .args .state .now) (c .before .before .before .before .before .before .before .before .before .args .prio .now) (c .before .before .before .before .before .before .before .before .before .args .cpu .now) (c .before .before .before .before .before .before .before .before .before .args .c) b (getD (c .before .before .before .before .before .before .before .before .before .args .row .now) (l .i) 0)) (sym (l .inv .1)) (p .0 (l .i) (omega arith))),
+          no (k .stands .result) (k .stands .ensures) (not-true (k .stands .result) (k .if1 .taken))
+          (subst (Here (k .at-loop)) (sym (l .inv .1)) (p .0 (l .i) (omega arith))),
       λ e. never e,
     )
 
 add-requires : tie.Need-add-requires Inv-loop μ-loop
 add-requires c κs =
-    let s = yes (c .before .before .stands .result) (c .before .before .stands .ensures) (not-false (c .before .before .stands .result) (c .before .if1 .left)) in
-    (c .before .before .before .before .before .loop .inv .3 .0, s .number)
+    let k = at.add-requires c in
+    (k .loop .inv .3 .0, here (k .else1) .number)
 
 returns-2 : tie.Need-returns-2 Inv-loop μ-loop
 returns-2 c =
-    let l = c .before .before .before .before .before .before .before .loop in
-    let row = c .before .before .before .before .before .before .before .before .before .before .before .before .args .row .now in
+    let k = at.returns-2 c in
+    let l = k .loop in
+    let row = k .args .row .now in
     let u = getD row (l .i) 0 in
     let there : marked (l .marks) u ≡ true =
-    not-false (marked (l .marks) u) (sym (c .before .add .ensures .0) ∙ not-true (c .before .add .result) (c .if2 .taken)) in (
-      λ p. twice (l .marks) (c .before .before .before .before .before .before .before .before .before .before .before .before .args .marks .now) row (l .i) (c .before .before .before .before .before .before .before .before .before .before .before .before .args .count) (omega arith) (omega arith) (l .inv .3 .1 u) there (p .1 u),
+    not-false (marked (l .marks) u) (sym (k .add .ensures .0) ∙ not-true (k .add .result) (k .if2 .taken)) in (
+      λ p. twice (l .marks) (k .args .marks .now) row (l .i) (k .args .count) (omega arith) (omega arith) (l .inv .3 .1 u) there (p .1 u),
       λ e. never e,
     )
 
 shared-slice-read-bound : tie.Need-shared-slice-read-bound Inv-loop μ-loop
 shared-slice-read-bound c =
-    let s = yes (c .before .before .before .before .before .stands .result) (c .before .before .before .before .before .stands .ensures) (not-false (c .before .before .before .before .before .stands .result) (c .before .before .before .before .if1 .left)) in
-    let n = s .number in
-    omega (arith, c .before .before .before .before .before .before .before .before .before .before .before .before .before .pre .0)
+    let k = at.shared-slice-read-bound c in
+    let n = here (k .else1) .number in
+    omega (arith, k .pre .0)
 
 add-i : tie.Need-add-i Inv-loop μ-loop
 add-i c = omega arith
@@ -90,25 +109,27 @@ loop-less c = omega arith
 
 loop-again : tie.Need-loop-again Inv-loop μ-loop
 loop-again c =
-    let l = c .before .before .before .before .before .before .before .before .loop in
-    let row = c .before .before .before .before .before .before .before .before .before .before .before .before .before .args .row .now in
-    let prio = c .before .before .before .before .before .before .before .before .before .before .before .before .before .args .prio .now in
-    let s = yes (c .before .before .before .before .before .stands .result) (c .before .before .before .before .before .stands .ensures) (not-false (c .before .before .before .before .before .stands .result) (c .before .before .before .before .if1 .left)) in
-    let joined = c .before .before .add .ensures .1 (not-false (c .before .before .add .result) (c .before .if2 .left)) in (
+    let k = at.loop-again c in
+    let l = k .loop in
+    let row = k .args .row .now in
+    let prio = k .args .prio .now in
+    let joined = k .add .ensures .1 (not-false (k .add .result) (k .if2 .left)) in (
       omega arith,
       ap (above prio row) (sym (add-one (l .i))),
-      below-more _ _ (l .inv .2) (subst (λ (b : ℕ). Stands (c .before .before .before .before .before .before .before .before .before .before .before .before .before .args .state .now) (c .before .before .before .before .before .before .before .before .before .before .before .before .before .args .prio .now) (c .before .before .before .before .before .before .before .before .before .before .before .before .before .args .cpu .now) (c .before .before .before .before .before .before .before .before .before .before .before .before .before .args .c) b (getD (c .before .before .before .before .before .before .before .before .before .before .before .before .before .args .row .now) (l .i) 0)) (l .inv .1) s),
+      below-more _ _ (l .inv .2) (subst (Here (k .at-loop)) (l .inv .1) (here (k .else1))),
       (joined .0, λ u. omega (arith, joined .1 u, l .inv .3 .1 u, occ-take u row (l .i) (omega arith))),
     )
 
 returns-3 : tie.Need-returns-3 Inv-loop μ-loop
 returns-3 c =
-    let l = c .before .loop in
-    let all : l .i ≡ c .before .before .before .before .before .before .args .count = omega arith in
-    let row = c .before .before .before .before .before .before .args .row .now in
-    let joined : Marks (c .before .before .before .before .before .before .args .marks .now) row (c .before .before .before .before .before .before .args .count) (l .marks) = subst (λ (k : ℕ). Marks (c .before .before .before .before .before .before .args .marks .now) row k (l .marks)) all (l .inv .3) in (
+    let k = at.returns-3 c in
+    let a = k .args in
+    let l = k .loop in
+    let all : l .i ≡ a .count = omega arith in
+    let joined : Marks (a .marks .now) (a .row .now) (a .count) (l .marks) =
+    subst (λ (n : ℕ). Marks (a .marks .now) (a .row .now) n (l .marks)) all (l .inv .3) in (
       (
-        subst (λ (k : ℕ). AllStand (c .before .before .before .before .before .before .args .state .now) (c .before .before .before .before .before .before .args .prio .now) (c .before .before .before .before .before .before .args .cpu .now) (c .before .before .before .before .before .before .args .row .now) (c .before .before .before .before .before .before .args .c) k) all (l .inv .2),
+        subst (AllStand (a .state .now) (a .prio .now) (a .cpu .now) (a .row .now) (a .c)) all (l .inv .2),
         λ u. omega (arith, joined .1 u, digit-le (marked (l .marks) u)),
       ),
       λ e. joined,
@@ -116,8 +137,7 @@ returns-3 c =
 
 pub tasks-stand-spec : {M : Type 1} → statement M
 tasks-stand-spec =
-    tie.close
-    (tie.spec
+    at.close
     Inv-loop
     μ-loop
     loop-holds
@@ -132,4 +152,4 @@ tasks-stand-spec =
     add-i
     loop-less
     loop-again
-    returns-3)
+    returns-3

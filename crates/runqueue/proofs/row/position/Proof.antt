@@ -14,6 +14,8 @@ use Rattle.rules.proofs.Order.{place-lt, place-is}
 use Rattle.runqueue.proofs.Places.{place-before}
 use Rattle.runqueue.proofs.row.position.Statement.{statement}
 use Rattle.runqueue.proofs.row.position.Tie as tie
+use Rattle.runqueue.proofs.row.position.Proof.Paths as known
+mod Paths
 
 -- the place is within the count, and within the row
 within : (row : List ℕ) (count task : ℕ) → count ≤ length row → In task (take count row) → (place task (take count row) < count) × (place task (take count row) < length row)
@@ -36,27 +38,28 @@ abbrev μ-loop : tie.MeasureT-loop
 μ-loop row count task at₀ at = place task (take count row) - at
 
 -- the task is not at this place, so it stands later
-later : (c : tie.Then1 Inv-loop μ-loop) → c .before .before .loop .at < place (c .before .before .before .args .task) (take (c .before .before .before .args .count) (c .before .before .before .args .row .now))
+later : (c : tie.Then1 Inv-loop μ-loop) → let k = known.then1 c in k .loop .at < place (k .args .task) (take (k .args .count) (k .args .row .now))
 later c =
-    let a = c .before .before .before .args in
-    let at = c .before .before .loop .at in
+    let p = known.then1 c in
+    let a = p .args in
+    let at = p .loop .at in
     let xs = take (a .count) (a .row .now) in
-    let in-reach = within (a .row .now) (a .count) (a .task) (c .before .before .before .pre .0) (c .before .before .before .pre .1) in
+    let in-reach = within (a .row .now) (a .count) (a .task) (p .pre .0) (p .pre .1) in
     let differs : at ≢ place (a .task) xs =
-    λ e. c .if1 .taken (sym (getD-take (a .count) (a .row .now) at 0 (omega arith)) ∙ ap (λ (k : ℕ). getD xs k 0) e ∙ place-is (a .task) xs (c .before .before .before .pre .1)) in
-    lt-of-le-ne (c .before .before .loop .inv) differs
+    λ e. p .if1 .taken (sym (getD-take (a .count) (a .row .now) at 0 (omega arith)) ∙ ap (λ (k : ℕ). getD xs k 0) e ∙ place-is (a .task) xs (p .pre .1)) in
+    lt-of-le-ne (p .loop .inv) differs
 
 loop-holds : tie.Need-loop-holds Inv-loop μ-loop
 loop-holds c = omega arith
 
 mul-if1 : tie.Need-mul-if1 Inv-loop μ-loop
-mul-if1 c = let s = within (c .before .args .row .now) (c .before .args .count) (c .before .args .task) (c .before .pre .0) (c .before .pre .1) in omega arith
+mul-if1 c = let k = known.mul-if1 c in let s = within (k .args .row .now) (k .args .count) (k .args .task) (k .pre .0) (k .pre .1) in omega arith
 
 shared-slice-read-if1 : tie.Need-shared-slice-read-if1 Inv-loop μ-loop
-shared-slice-read-if1 c = let s = within (c .before .before .args .row .now) (c .before .before .args .count) (c .before .before .args .task) (c .before .before .pre .0) (c .before .before .pre .1) in omega arith
+shared-slice-read-if1 c = let k = known.shared-slice-read-if1 c in let s = within (k .args .row .now) (k .args .count) (k .args .task) (k .pre .0) (k .pre .1) in omega arith
 
 add-at : tie.Need-add-at Inv-loop μ-loop
-add-at c = let s = within (c .before .before .before .args .row .now) (c .before .before .before .args .count) (c .before .before .before .args .task) (c .before .before .before .pre .0) (c .before .before .before .pre .1) in omega arith
+add-at c = let k = known.add-at c in let s = within (k .args .row .now) (k .args .count) (k .args .task) (k .pre .0) (k .pre .1) in omega arith
 
 loop-less : tie.Need-loop-less Inv-loop μ-loop
 loop-less c = let s = later c in omega arith
@@ -66,22 +69,12 @@ loop-again c = let s = later c in omega arith
 
 returns : tie.Need-returns Inv-loop μ-loop
 returns c =
-    let a = c .before .before .before .args in
-    let at = c .before .before .loop .at in
+    let k = known.returns c in
+    let a = k .args in
+    let at = k .loop .at in
     let xs = take (a .count) (a .row .now) in
-    let in-reach = within (a .row .now) (a .count) (a .task) (c .before .before .before .pre .0) (c .before .before .before .pre .1) in
-    stop (a .task) xs at (c .before .before .loop .inv) (getD-take (a .count) (a .row .now) at 0 (omega arith) ∙ c .if1 .left)
+    let in-reach = within (a .row .now) (a .count) (a .task) (k .pre .0) (k .pre .1) in
+    stop (a .task) xs at (k .loop .inv) (getD-take (a .count) (a .row .now) at 0 (omega arith) ∙ k .if1 .left)
 
 pub position-spec : {M : Type 1} → statement M
-position-spec =
-    tie.close
-    (tie.spec
-    Inv-loop
-    μ-loop
-    loop-holds
-    mul-if1
-    shared-slice-read-if1
-    add-at
-    loop-less
-    loop-again
-    returns)
+position-spec = known.close Inv-loop μ-loop loop-holds mul-if1 shared-slice-read-if1 add-at loop-less loop-again returns

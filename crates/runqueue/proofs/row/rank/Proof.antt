@@ -15,6 +15,8 @@ use Rattle.runqueue.specs.Row.{ahead}
 use Rattle.runqueue.proofs.Places.{ahead-is}
 use Rattle.runqueue.proofs.row.rank.Statement.{statement}
 use Rattle.runqueue.proofs.row.rank.Tie as tie
+use Rattle.runqueue.proofs.row.rank.Proof.Paths as known
+mod Paths
 
 none : {k n : ℕ} → n ≤ k → k < n → ⊥
 none h l = omega arith
@@ -71,17 +73,18 @@ shared-slice-read-last : tie.Need-shared-slice-read-last Inv-loop μ-loop
 shared-slice-read-last c = omega arith
 
 cast-last : tie.Need-cast-last Inv-loop μ-loop
-cast-last c = omega (arith, c .shared-slice-known .given (c .before .before .loop .at - 1))
+cast-last c = let k = known.cast-last c in omega (arith, k .shared-slice-known .given (k .loop .at - 1))
 
 shared-slice-read-if1 : tie.Need-shared-slice-read-if1 Inv-loop μ-loop
-shared-slice-read-if1 c = let r = c .before .before .before .before .pre .1 .1 .0 (c .before .before .before .loop .at - 1) (omega arith) in omega arith
+shared-slice-read-if1 c = let k = known.shared-slice-read-if1 c in let r = k .pre .1 .1 .0 (k .loop .at - 1) (omega arith) in omega arith
 
 returns : tie.Need-returns Inv-loop μ-loop
 returns c =
-    let a = c .before .before .before .before .before .args in
-    let p = c .before .before .before .before .before .pre in
-    let l = c .before .before .before .before .loop in
-    sym (rank-is (a .row .now) (a .prio .now) (a .count) (a .priority) (l .at) (p .0) (p .1 .1 .1) (l .inv .0) (l .inv .1) (λ h. c .if1 .taken))
+    let k = known.returns c in
+    let a = k .args in
+    let p = k .pre in
+    let l = k .loop in
+    sym (rank-is (a .row .now) (a .prio .now) (a .count) (a .priority) (l .at) (p .0) (p .1 .1 .1) (l .inv .0) (l .inv .1) (λ h. k .if1 .taken))
 
 sub-at : tie.Need-sub-at Inv-loop μ-loop
 sub-at c = omega arith
@@ -91,21 +94,22 @@ loop-less c = omega arith
 
 loop-again : tie.Need-loop-again Inv-loop μ-loop
 loop-again c =
-    let l = c .before .before .before .before .loop in
-    (omega arith, extend (c .before .before .before .before .before .args .row .now) (c .before .before .before .before .before .args .prio .now) (c .before .before .before .before .before .args .count) (c .before .before .before .before .before .args .priority) (l .at) (omega arith) (l .inv .1) (c .if1 .left))
+    let k = known.loop-again c in
+    let l = k .loop in
+    (omega arith, extend (k .args .row .now) (k .args .prio .now) (k .args .count) (k .args .priority) (l .at) (omega arith) (l .inv .1) (k .if1 .left))
 
 returns-2 : tie.Need-returns-2 Inv-loop μ-loop
 returns-2 c =
-    let a = c .before .before .args in
-    let p = c .before .before .pre in
-    let l = c .before .loop in
+    let q = known.returns-2 c in
+    let a = q .args in
+    let p = q .pre in
+    let l = q .loop in
     let start : l .at ≡ 0 = omega arith in
     sym (rank-is (a .row .now) (a .prio .now) (a .count) (a .priority) 0 (p .0) (p .1 .1 .1) (omega arith) (λ k h m. l .inv .1 k (omega arith) m) (λ h. absurd (none zero-le h)))
 
 pub rank-spec : {M : Type 1} → statement M
 rank-spec =
-    tie.close
-    (tie.spec
+    known.close
     Inv-loop
     μ-loop
     loop-holds
@@ -118,4 +122,4 @@ rank-spec =
     sub-at
     loop-less
     loop-again
-    returns-2)
+    returns-2

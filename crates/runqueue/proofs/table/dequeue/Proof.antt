@@ -1,28 +1,44 @@
--- `runqueue::table::dequeue` meets its contract. Assumes nothing.
+-- `runqueue::table::dequeue` meets its contract: the row's part of the flat table loses the task, and its count is one less.
+-- Assumes nothing.
 use borrow.Author.Needs.{needs}
 use mathlib.Core.Path.{_≡_, sym, ap, _∙_, subst}
-use Prim.Native.Nat.{ℕ, suc, _+_, _-_, _*_}
-use mathlib.Core.List.{List, _++_}
+use Prim.Native.Nat.{ℕ, suc, _+_, _-_, _*_, _≤_}
+use mathlib.Core.List.{List}
 use native.Mathlib.Omega.{arith}
-use lib.ListN.{length, getD, set, take, drop}
+use lib.ListN.{length, getD, set}
 use Rattle.rules.specs.Lists.{In, delete}
-use Rattle.rules.specs.Tables.{padded, flatOf}
+use Rattle.rules.specs.Tables.{padded}
 use Rattle.rules.proofs.Lists.{length-delete}
-use Rattle.runqueue.specs.Row.{HoldsRow}
-use Rattle.runqueue.specs.Table.{rowAt, rowsWith}
-use Rattle.runqueue.proofs.Flat.{count-is, part-held, part-taken, rows-fit, rows-become, counts-become, as-counted}
+use Rattle.runqueue.specs.Table.{rowAt}
+use Rattle.runqueue.proofs.Flat.{count-is, rows-fit, counts-become, lent-held, lent-row, lent-become}
 use Rattle.runqueue.proofs.table.dequeue.Statement.{statement}
 use Rattle.runqueue.proofs.table.dequeue.Tie as tie
+use Rattle.runqueue.proofs.table.dequeue.Proof.Paths as at
+mod Paths
 
--- the row without the task has one less than the count
-one-less : (c : tie.After-slice-known4) → suc (length (delete (c .before .before .before .before .before .before .before .args .task) (rowAt (c .before .before .before .before .before .before .before .args .counts .now) (c .before .before .before .before .before .before .before .args .rows .now) (c .before .before .before .before .before .before .before .args .cpu)))) ≡ getD (c .before .before .before .before .before .before .before .args .counts .now) (c .before .before .before .before .before .before .before .args .cpu) 0
-one-less c =
-    let a = c .before .before .before .before .before .before .before in
-    length-delete (a .args .task) (rowAt (a .args .counts .now) (a .args .rows .now) (a .args .cpu)) (a .pre .1 .1)
-    ∙ sym (count-is (a .args .counts .now) (a .args .rows .now) (a .pre .0) (a .args .cpu) (a .pre .1 .0))
+-- ---- what the caller lent
+
+module _ (c : tie.Start) where
+  abbrev row : List ℕ
+  row = let a = c .args in rowAt (a .counts .now) (a .rows .now) (a .cpu)
+
+  -- the row without the task
+  abbrev shorter : List ℕ
+  shorter = delete (c .args .task) row
+
+  fit : let a = c .args in 512 * a .cpu + 512 ≤ length (a .rows .now)
+  fit = let a = c .args in rows-fit (a .counts .now) (a .rows .now) (c .pre .0) (a .cpu) (c .pre .1 .0)
+
+  counted : let a = c .args in getD (a .counts .now) (a .cpu) 0 ≡ length row
+  counted = let a = c .args in count-is (a .counts .now) (a .rows .now) (c .pre .0) (a .cpu) (c .pre .1 .0)
+
+  one-less : let a = c .args in suc (length shorter) ≡ getD (a .counts .now) (a .cpu) 0
+  one-less = length-delete (c .args .task) row (c .pre .1 .1) ∙ sym counted
+
+-- ---- the needs
 
 mul-start : tie.Need-mul-start
-mul-start c = let f = rows-fit (c .before .before .args .counts .now) (c .before .before .args .rows .now) (c .before .before .pre .0) (c .before .before .args .cpu) (c .before .before .pre .1 .0) in omega arith
+mul-start c = omega (arith, fit (at.mul-start c .start))
 
 mul-count : tie.Need-mul-count
 mul-count c = search needs
@@ -31,13 +47,13 @@ slice-read-count : tie.Need-slice-read-count
 slice-read-count c = search needs
 
 cast-count : tie.Need-cast-count
-cast-count c = omega (arith, c .slice-known3 .given (c .before .before .before .args .cpu))
+cast-count c = let k = at.cast-count c in omega (arith, k .slice-known3 .given (k .args .cpu))
 
 add-remove : tie.Need-add-remove
-add-remove c = let f = rows-fit (c .before .before .before .args .counts .now) (c .before .before .before .args .rows .now) (c .before .before .before .pre .0) (c .before .before .before .args .cpu) (c .before .before .before .pre .1 .0) in omega arith
+add-remove c = omega (arith, fit (at.add-remove c .start))
 
 mul-remove : tie.Need-mul-remove
-mul-remove c = let f = rows-fit (c .before .before .before .args .counts .now) (c .before .before .before .args .rows .now) (c .before .before .before .pre .0) (c .before .before .before .args .cpu) (c .before .before .before .pre .1 .0) in omega arith
+mul-remove c = omega (arith, fit (at.mul-remove c .start))
 
 sub-remove : tie.Need-sub-remove
 sub-remove c = search needs
@@ -46,27 +62,22 @@ part-remove-start : tie.Need-part-remove-start
 part-remove-start c = search needs
 
 part-remove-end : tie.Need-part-remove-end
-part-remove-end c = let f = rows-fit (c .before .before .before .args .counts .now) (c .before .before .before .args .rows .now) (c .before .before .before .pre .0) (c .before .before .before .args .cpu) (c .before .before .before .pre .1 .0) in omega arith
+part-remove-end c = omega (arith, fit (at.part-remove-end c .start))
 
 remove-requires : tie.Need-remove-requires
 remove-requires c κs =
-    let a = c .before .before .before .before in
-    let counts = a .args .counts .now in
-    let rows = a .args .rows .now in (
-      as-counted (a .args .cpu) (λ (s k : ℕ). HoldsRow (getD counts (a .args .cpu) 0) (take k (drop s rows))) (part-held counts rows (a .pre .0) (a .args .cpu) (a .pre .1 .0)),
-      as-counted (a .args .cpu) (λ (s k : ℕ). In (a .args .task) (take (getD counts (a .args .cpu) 0) (take k (drop s rows))))
-          (subst (In (a .args .task)) (sym (part-taken counts rows (a .pre .0) (a .args .cpu) (a .pre .1 .0))) (a .pre .1 .1)),
-    )
+    let k = at.remove-requires c in
+    let a = k .args in
+    let h = k .pre in
+    (lent-held (h .0) (a .cpu) (h .1 .0), subst (In (a .task)) (sym (lent-row (h .0) (a .cpu) (h .1 .0))) (h .1 .1))
 
 sub-counts : tie.Need-sub-counts
-sub-counts c = let n = one-less c in omega arith
+sub-counts c = omega (arith, one-less (at.sub-counts c .start))
 
 cast-counts : tie.Need-cast-counts
 cast-counts c =
-    let n = one-less c in
-    let m = c .before .before .before .before .before .before .before .pre .0 .fits (c .before .before .before .before .before .before .before .args .cpu) in
-    let k = count-is (c .before .before .before .before .before .before .before .args .counts .now) (c .before .before .before .before .before .before .before .args .rows .now) (c .before .before .before .before .before .before .before .pre .0) (c .before .before .before .before .before .before .before .args .cpu) (c .before .before .before .before .before .before .before .pre .1 .0) in
-    omega arith
+    let s = at.cast-counts c .start in
+    omega (arith, one-less s, counted s, s .pre .0 .fits (s .args .cpu))
 
 mul-counts : tie.Need-mul-counts
 mul-counts c = search needs
@@ -77,29 +88,21 @@ slice-write-counts c = search needs
 same-length : tie.Need-same-length
 same-length c = search needs
 
-same-length-2 : tie.Need-same-length-2
-same-length-2 c = search needs
-
 returns : tie.Need-returns
 returns c =
-    let a = c .before .before .before .before .before .before .before in
-    let counts = a .args .counts .now in
-    let rows = a .args .rows .now in
-    let q = delete (a .args .task) (rowAt counts rows (a .args .cpu)) in
-    let part : c .before .before .remove .last .0 ≡ padded q =
-    c .before .before .remove .ensures
-    ∙ ap (λ (r : List ℕ). padded (delete (a .args .task) r))
-    (as-counted (a .args .cpu) (λ (s k : ℕ). take (getD counts (a .args .cpu) 0) (take k (drop s rows)) ≡ rowAt counts rows (a .args .cpu)) (part-taken counts rows (a .pre .0) (a .args .cpu) (a .pre .1 .0))) in
-    let n = one-less c in (
-      ap (λ (l : List ℕ). take (a .args .cpu * 512) rows ++ (l ++ drop (a .args .cpu * 512 + 512 - a .args .cpu * 512) (drop (a .args .cpu * 512) rows))) part
-          ∙ as-counted (a .args .cpu) (λ (s k : ℕ). take s rows ++ (padded q ++ drop k (drop s rows)) ≡ flatOf (rowsWith counts rows (a .args .cpu) q)) (rows-become counts rows (a .pre .0) (a .args .cpu) (a .pre .1 .0) q),
-      ap (set counts (a .args .cpu)) (let e : getD counts (a .args .cpu) 0 - 1 ≡ length q = omega arith in e) ∙ counts-become counts rows (a .pre .0) (a .args .cpu) (a .pre .1 .0) q,
+    let k = at.returns c in
+    let a = k .args in
+    let h = k .pre in
+    let less = shorter (k .start) in
+    let part = k .remove .ensures ∙ ap (λ (r : List ℕ). padded (delete (a .task) r)) (lent-row (h .0) (a .cpu) (h .1 .0)) in
+    let count : getD (a .counts .now) (a .cpu) 0 - 1 ≡ length less = omega (arith, one-less (k .start)) in (
+      lent-become (h .0) (a .cpu) (h .1 .0) less part,
+      ap (set (a .counts .now) (a .cpu)) count ∙ counts-become (a .counts .now) (a .rows .now) (h .0) (a .cpu) (h .1 .0) less,
     )
 
 pub dequeue-spec : {M : Type 1} → statement M
 dequeue-spec =
-    tie.close
-    (tie.spec
+    at.close
     mul-start
     mul-count
     slice-read-count
@@ -115,5 +118,4 @@ dequeue-spec =
     mul-counts
     slice-write-counts
     same-length
-    same-length-2
-    returns)
+    returns

@@ -10,18 +10,32 @@ use Rattle.rowcheck.specs.Placed.{marked}
 use Rattle.wellformed.specs.Passes.{taskAt, soundWhen}
 use Rattle.wellformed.proofs.columns.columns_fit.Statement.{statement}
 use Rattle.wellformed.proofs.columns.columns_fit.Tie as tie
+use Rattle.wellformed.proofs.columns.columns_fit.Proof.Paths as at
+mod Paths
 
 none : {k : ℕ} → k < 0 → ⊥
 none h = omega arith
 
 abbrev Inv-loop : tie.InvT-loop
-Inv-loop n state policy prio cpu slice mask marks t₀ t = (t ≤ 512) × ((k : ℕ) → k < t → soundWhen (marked marks k) n (taskAt state policy prio cpu slice mask k) ≡ true)
+Inv-loop n state policy prio cpu slice mask marks t₀ t =
+    (t ≤ 512) × ((k : ℕ) → k < t → soundWhen (marked marks k) n (taskAt state policy prio cpu slice mask k) ≡ true)
 
 abbrev μ-loop : tie.MeasureT-loop
 μ-loop n state policy prio cpu slice mask marks t₀ t = 512 - t
 
-tested : (c : tie.Then1 Inv-loop μ-loop) → soundWhen (marked (c .before .before .before .before .before .before .before .before .before .before .before .before .before .before .before .before .before .args .marks .now) (c .before .before .before .before .before .before .before .before .before .before .loop .t)) (c .before .before .before .before .before .before .before .before .before .before .before .before .before .before .before .before .before .args .n) (taskAt (c .before .before .before .before .before .before .before .before .before .before .before .before .before .before .before .before .before .args .state .now) (c .before .before .before .before .before .before .before .before .before .before .before .before .before .before .before .before .before .args .policy .now) (c .before .before .before .before .before .before .before .before .before .before .before .before .before .before .before .before .before .args .prio .now) (c .before .before .before .before .before .before .before .before .before .before .before .before .before .before .before .before .before .args .cpu .now) (c .before .before .before .before .before .before .before .before .before .before .before .before .before .before .before .before .before .args .slice .now) (c .before .before .before .before .before .before .before .before .before .before .before .before .before .before .before .before .before .args .mask .now) (c .before .before .before .before .before .before .before .before .before .before .loop .t)) ≡ c .before .task-fits .result
-tested c = ap (λ (b : Bool). soundWhen b (c .before .before .before .before .before .before .before .before .before .before .before .before .before .before .before .before .before .args .n) (taskAt (c .before .before .before .before .before .before .before .before .before .before .before .before .before .before .before .before .before .args .state .now) (c .before .before .before .before .before .before .before .before .before .before .before .before .before .before .before .before .before .args .policy .now) (c .before .before .before .before .before .before .before .before .before .before .before .before .before .before .before .before .before .args .prio .now) (c .before .before .before .before .before .before .before .before .before .before .before .before .before .before .before .before .before .args .cpu .now) (c .before .before .before .before .before .before .before .before .before .before .before .before .before .before .before .before .before .args .slice .now) (c .before .before .before .before .before .before .before .before .before .before .before .before .before .before .before .before .before .args .mask .now) (c .before .before .before .before .before .before .before .before .before .before .loop .t))) (sym (c .before .before .before .before .before .before .before .before .has .ensures)) ∙ sym (c .before .task-fits .ensures)
+-- ---- the task that is looked at
+
+module _ (c : tie.After-task-fits Inv-loop μ-loop) where
+  abbrev sound : Bool → Bool
+  sound placed =
+      let k = at.after-task-fits c in
+      let a = k .args in
+      soundWhen placed (a .n) (taskAt (a .state .now) (a .policy .now) (a .prio .now) (a .cpu .now) (a .slice .now) (a .mask .now) (k .loop .t))
+
+  tested : let k = at.after-task-fits c in sound (marked (k .args .marks .now) (k .loop .t)) ≡ k .task-fits .result
+  tested = let k = at.after-task-fits c in ap sound (sym (k .has .ensures)) ∙ sym (k .task-fits .ensures)
+
+-- ---- the needs
 
 loop-holds : tie.Need-loop-holds Inv-loop μ-loop
 loop-holds c = (omega arith, λ k h. absurd (none h))
@@ -30,34 +44,37 @@ has-requires : tie.Need-has-requires Inv-loop μ-loop
 has-requires c κs = omega arith
 
 shared-slice-read-task-fits : tie.Need-shared-slice-read-task-fits Inv-loop μ-loop
-shared-slice-read-task-fits c = omega (arith, c .before .before .before .before .before .before .before .before .before .before .pre)
+shared-slice-read-task-fits c = omega (arith, at.shared-slice-read-task-fits c .pre)
 
 shared-slice-read-task-fits-2 : tie.Need-shared-slice-read-task-fits-2 Inv-loop μ-loop
-shared-slice-read-task-fits-2 c = omega (arith, c .before .before .before .before .before .before .before .before .before .before .before .pre)
+shared-slice-read-task-fits-2 c = omega (arith, at.shared-slice-read-task-fits-2 c .pre)
 
 shared-slice-read-task-fits-3 : tie.Need-shared-slice-read-task-fits-3 Inv-loop μ-loop
-shared-slice-read-task-fits-3 c = omega (arith, c .before .before .before .before .before .before .before .before .before .before .before .before .pre)
+shared-slice-read-task-fits-3 c = omega (arith, at.shared-slice-read-task-fits-3 c .pre)
 
 shared-slice-read-task-fits-4 : tie.Need-shared-slice-read-task-fits-4 Inv-loop μ-loop
-shared-slice-read-task-fits-4 c = omega (arith, c .before .before .before .before .before .before .before .before .before .before .before .before .before .pre)
+shared-slice-read-task-fits-4 c = omega (arith, at.shared-slice-read-task-fits-4 c .pre)
 
 mul-task-fits : tie.Need-mul-task-fits Inv-loop μ-loop
 mul-task-fits c = omega arith
 
 shared-slice-read-task-fits-5 : tie.Need-shared-slice-read-task-fits-5 Inv-loop μ-loop
-shared-slice-read-task-fits-5 c = omega (arith, c .before .before .before .before .before .before .before .before .before .before .before .before .before .before .pre)
+shared-slice-read-task-fits-5 c = omega (arith, at.shared-slice-read-task-fits-5 c .pre)
 
 mul-task-fits-2 : tie.Need-mul-task-fits-2 Inv-loop μ-loop
 mul-task-fits-2 c = omega arith
 
 shared-slice-read-task-fits-6 : tie.Need-shared-slice-read-task-fits-6 Inv-loop μ-loop
-shared-slice-read-task-fits-6 c = omega (arith, c .before .before .before .before .before .before .before .before .before .before .before .before .before .before .before .pre)
+shared-slice-read-task-fits-6 c = omega (arith, at.shared-slice-read-task-fits-6 c .pre)
 
 task-fits-requires : tie.Need-task-fits-requires Inv-loop μ-loop
-task-fits-requires c κs = c .before .before .before .before .before .before .before .before .before .before .before .before .before .before .before .pre .0
+task-fits-requires c κs = at.task-fits-requires c .pre .0
 
 returns : tie.Need-returns Inv-loop μ-loop
-returns c = λ p. false≢true (sym (not-true (c .before .task-fits .result) (c .if1 .taken)) ∙ sym (tested c) ∙ p (c .before .before .before .before .before .before .before .before .before .before .loop .t) (omega arith))
+returns c = λ p.
+    let k = at.returns c in
+    let failed = not-true (k .task-fits .result) (k .if1 .taken) in
+    false≢true (sym failed ∙ sym (tested (k .after-task-fits)) ∙ p (k .loop .t) (omega arith))
 
 add-t : tie.Need-add-t Inv-loop μ-loop
 add-t c = omega arith
@@ -66,15 +83,17 @@ loop-less : tie.Need-loop-less Inv-loop μ-loop
 loop-less c = omega arith
 
 loop-again : tie.Need-loop-again Inv-loop μ-loop
-loop-again c = (omega arith, below-more _ _ (c .before .before .before .before .before .before .before .before .before .before .loop .inv .1) (ap (λ (b : Bool). soundWhen b (c .before .before .before .before .before .before .before .before .before .before .before .before .before .before .before .before .before .args .n) (taskAt (c .before .before .before .before .before .before .before .before .before .before .before .before .before .before .before .before .before .args .state .now) (c .before .before .before .before .before .before .before .before .before .before .before .before .before .before .before .before .before .args .policy .now) (c .before .before .before .before .before .before .before .before .before .before .before .before .before .before .before .before .before .args .prio .now) (c .before .before .before .before .before .before .before .before .before .before .before .before .before .before .before .before .before .args .cpu .now) (c .before .before .before .before .before .before .before .before .before .before .before .before .before .before .before .before .before .args .slice .now) (c .before .before .before .before .before .before .before .before .before .before .before .before .before .before .before .before .before .args .mask .now) (c .before .before .before .before .before .before .before .before .before .before .loop .t))) (sym (c .before .before .before .before .before .before .before .before .has .ensures)) ∙ sym (c .before .task-fits .ensures) ∙ not-false (c .before .task-fits .result) (c .if1 .left)))
+loop-again c =
+    let k = at.loop-again c in
+    let passed = not-false (k .task-fits .result) (k .if1 .left) in
+    (omega arith, below-more _ _ (k .loop .inv .1) (tested (k .after-task-fits) ∙ passed))
 
 returns-2 : tie.Need-returns-2 Inv-loop μ-loop
-returns-2 c = λ k h. c .before .loop .inv .1 k (omega arith)
+returns-2 c = λ k h. at.returns-2 c .loop .inv .1 k (omega arith)
 
 pub columns-fit-spec : {M : Type 1} → statement M
 columns-fit-spec =
-    tie.close
-    (tie.spec
+    at.close
     Inv-loop
     μ-loop
     loop-holds
@@ -92,4 +111,4 @@ columns-fit-spec =
     add-t
     loop-less
     loop-again
-    returns-2)
+    returns-2
