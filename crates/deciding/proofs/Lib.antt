@@ -1,6 +1,3 @@
--- The laws of decisions.
-pub mod Planned
-pub mod Answers
+-- The laws of deciding.
 pub mod Running
-pub mod Plans
 pub mod Deciding

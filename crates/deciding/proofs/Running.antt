@@ -18,7 +18,8 @@ use Rattle.runqueue.specs.Table.{HoldsRows, rowAt}
 use Rattle.runqueue.proofs.Flat.{count-is, first-place, rows-fit}
 use Rattle.placement.specs.Held.{Held}
 use Rattle.placement.proofs.Order.{well-formed-order, holds, read-row, cpus-counted}
-use Rattle.deciding.specs.Decided.{LentRows, firstOf}
+use Rattle.kinds.specs.Decided.{firstOf}
+use Rattle.deciding.specs.Subject.{LentRows}
 
 module _ {m : Machine} {n : ℕ} {flat ns : List ℕ} (l : LentRows m n flat ns) where
   held : Held m (m .prio) ns flat (recordOf (levels m))
@@ -56,19 +57,3 @@ module _ {m : Machine} {n : ℕ} {flat ns : List ℕ} (l : LentRows m n flat ns)
 
   pub no-cpu : (c : ℕ) → n ≤ c → nothing ≡ firstOf (row m c)
   no-cpu c h = sym (ap firstOf (List·getD-eq-default (m .rows) [] (omega (arith, l .formed .shape .rows, l .cpus))))
-
--- ---- what it says of the row
-
-pub some-first : (t : ℕ) (r : List ℕ) → t ≡ firstOf r → t < taskPlaces → (ts : List ℕ) × (r ≡ t ∷ ts)
-some-first t [] e h = absurd (omega arith)
-some-first t (u ∷ us) e h = (us, ap (λ (x : ℕ). x ∷ us) (sym e))
-
-pub no-first : (m : Machine) (c t : ℕ) → WellFormed m → t ≡ firstOf (row m c) → taskPlaces ≤ t → row m c ≡ []
-no-first m c t w e z = go (row m c) refl
-  where
-    go : (r : List ℕ) → row m c ≡ r → r ≡ []
-    go [] q = refl
-    go (u ∷ us) q =
-        let small : u < taskPlaces = runnable-place m u w (in-row m u c w (subst (In u) (sym q) (in-here u us)) .0) in
-        let is : t ≡ u = e ∙ ap firstOf q in
-        absurd (omega arith)

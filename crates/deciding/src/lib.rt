@@ -2,13 +2,11 @@
 ghost use Rattle.rules.specs.Machine.{Machine};
 ghost use Rattle.rules.specs.Events.{event};
 ghost use Rattle.bits.specs.Moments.{old};
-ghost use Rattle.deciding.specs.Decided.{Lent, Decides};
+ghost use Rattle.deciding.specs.Subject.{Lent, Decides};
 
-pub mod kinds;
-pub mod plan;
 pub mod read;
 
-use plan::Decision;
+use kinds::plan::Decision;
 use rules::answer::UNKNOWN_KIND;
 
 // `at` is the task that the event is about: `read::subject`.

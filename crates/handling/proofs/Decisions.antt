@@ -11,10 +11,11 @@ use native.Mathlib.Omega.{arith}
 use Rattle.rules.specs.Machine.{Machine}
 use Rattle.rules.specs.Events.{Event, effect}
 use Rattle.rules.specs.Refusals.{refusal}
-use Rattle.deciding.specs.Decided.{did, Decides}
-use Rattle.deciding.proofs.plan.Decision.{the-type}
-use Rattle.deciding.specs.declared.plan.Decision.{Decision}
-use Rattle.deciding.specs.declared.plan.Decision.the-variants.{Refused, Nothing, Place, Flag}
+use Rattle.kinds.specs.Decided.{did}
+use Rattle.deciding.specs.Subject.{Decides}
+use Rattle.kinds.proofs.plan.Decision.{the-type}
+use Rattle.kinds.specs.declared.plan.Decision.{Decision}
+use Rattle.kinds.specs.declared.plan.Decision.the-variants.{Refused, Nothing, Place, Flag}
 use Rattle.carrying.specs.Holds.{Ready}
 
 abbrev pub accepted : Decision → Bool

@@ -9,8 +9,8 @@ use cpupri::record::CPUS;
 use cpupri::record::LEVELS;
 use cpupri::record::WORDS;
 use deciding::decide;
-use deciding::plan::Decision;
 use deciding::read::subject;
+use kinds::plan::Decision;
 use migration::settle::settle;
 
 // The answer to an event: 0 and the number of moves, or a refusal with 0 moves, which changes nothing.

@@ -1,4 +1,5 @@
--- `placement::enter` meets its contract. Assumes nothing.
+-- `placement::enter` meets its contract.
+-- Assumes nothing.
 use mathlib.Core.Path.{_≡_, refl, sym, ap, _∙_, subst}
 use mathlib.Core.Bool.{true}
 use mathlib.Core.List.{List}
@@ -10,16 +11,15 @@ use Rattle.cpupri.specs.Level.{known}
 use Rattle.cpupri.specs.Record.{recordOf}
 use Rattle.levels.specs.declared.record.Record.{Record}
 use Rattle.levels.proofs.Whole.{level-known}
-use Rattle.rules.specs.Lists.{Falling}
-use Rattle.rules.specs.Machine.{Machine, row, prioOf, flag, levels, levelOf, rowLevel, withRow, enqueue, queued, taskPlaces, highestPriority}
-use Rattle.rules.specs.Tables.{flatOf, rowCounts}
+use Rattle.rules.specs.Machine.{Machine, row, prioOf, flag, levels, levelOf, rowLevel, enqueue, queued, taskPlaces, highestPriority}
 use Rattle.rules.proofs.Lists.{length-insert}
 use Rattle.rules.proofs.Rows.{row-same}
-use Rattle.runqueue.specs.Table.{rowAt, rowsWith}
+use Rattle.runqueue.specs.Table.{rowAt}
 use Rattle.runqueue.proofs.Flat.{rows-fit}
 use Rattle.placement.specs.Held.{Held, Entering}
 use Rattle.placement.proofs.Levels.{row-level-known}
-use Rattle.placement.proofs.Order.{holds, read-row, whole, cpus-counted, fine-queued, held-row, levels-set, above, level-first, first-in}
+use Rattle.placement.proofs.Order.{holds, read-row, whole, cpus-counted, levels-set, above, level-first, first-in}
+use Rattle.placement.proofs.Joining.{can-enter, has-entered}
 use Rattle.placement.proofs.enter.Statement.{statement}
 use Rattle.placement.proofs.enter.Tie as tie
 use Rattle.placement.proofs.enter.Proof.Paths as at
@@ -29,30 +29,8 @@ module _ {ps ks flat : List ℕ} {r : Record} {t c : ℕ} (m : Machine) (l : Ent
   abbrev joined : List ℕ
   joined = queued (prioOf m) t (row m c)
 
-  -- the machine with the task in the row; its CPU column is apart
   abbrev entered : Machine
-  entered = withRow c joined m
-
-  row-is : rowAt ks flat c ≡ row m c
-  row-is = read-row m ps ks flat r (l .held) c
-
-  joinable : Falling (λ (u : ℕ). getD ps u 0) (rowAt ks flat c)
-  joinable =
-      subst (λ (q : List ℕ). Falling (λ (u : ℕ). getD ps u 0) q) (sym row-is)
-      (subst (λ (qs : List ℕ). Falling (λ (u : ℕ). getD qs u 0) (row m c)) (sym (l .held .prio)) (l .held .order .falling c))
-
-  same-queue : queued (λ (u : ℕ). getD ps u 0) t (rowAt ks flat c) ≡ joined
-  same-queue = ap (λ (qs : List ℕ). queued (λ (u : ℕ). getD qs u 0) t (rowAt ks flat c)) (l .held .prio) ∙ ap (queued (prioOf m) t) row-is
-
-  -- the rows once the task has entered, and what the tables then hold
-  abbrev left : List (List ℕ)
-  left = rowsWith ks flat c (queued (λ (u : ℕ). getD ps u 0) t (rowAt ks flat c))
-
-  after : {ks′ flat′ : List ℕ} → ks′ ≡ rowCounts left → flat′ ≡ flatOf left → Held entered ps ks′ flat′ (recordOf (levels entered))
-  after {ks′} {flat′} ek ef =
-      held-row m ps ks flat r c joined (l .held) (l .cpu) (fine-queued m t c (l .held .order) (l .task) (l .high) (l .room)) ks′ flat′
-      (ek ∙ ap (λ (q : List ℕ). rowCounts (rowsWith ks flat c q)) same-queue)
-      (ef ∙ ap (λ (q : List ℕ). flatOf (rowsWith ks flat c q)) same-queue)
+  entered = enqueue t c m
 
   module _ {ks′ flat′ : List ℕ} {r′ : Record} (h : Held entered ps ks′ flat′ r′) where
     here : c < length ks′
@@ -88,28 +66,7 @@ module _ {ps ks flat : List ℕ} {r : Record} {t c : ℕ} (m : Machine) (l : Ent
 -- ---- the needs
 
 enqueue-requires : tie.Need-enqueue-requires
-enqueue-requires c κs =
-    let k = at.enqueue-requires c in
-    let m = k .pre .0 .0 in
-    let l = k .pre .0 .1 in
-    let cpu = k .args .cpu in
-    let row-is = read-row m _ _ _ _ (l .held) cpu in (
-      holds m _ _ _ _ (l .held),
-      (
-        omega (arith, cpus-counted m _ _ _ _ (l .held), l .cpu),
-        (
-          l .task,
-          (
-            ap length (l .held .prio) ∙ l .held .order .prios,
-            record {
-              room = subst (λ (q : List ℕ). length q < taskPlaces) (sym row-is) (l .room);
-              tasks = λ u i. above m _ _ _ _ (l .held) cpu u i .0;
-              falling = joinable m l;
-            },
-          ),
-        ),
-      ),
-    )
+enqueue-requires c κs = let p = at.enqueue-requires c .pre .0 in can-enter (p .0) (p .1)
 
 cast-cpus : tie.Need-cast-cpus
 cast-cpus c = let l = at.cast-cpus c .pre .0 .1 in omega (arith, l .cpu, l .held .order .cpus)
@@ -125,7 +82,7 @@ first-level-requires c κs =
     let k = at.first-level-requires c in
     let m = k .pre .0 .0 in
     let l = k .pre .0 .1 in
-    let h = after m l (k .enqueue .ensures .1) (k .enqueue .ensures .0) in
+    let h = has-entered m l (k .enqueue .ensures .0) (k .enqueue .ensures .1) in
     let first = first-ok m l h in
     let f = rows-fit _ _ (holds (entered m l) _ _ _ _ h) (k .args .cpu) (here m l h) in
     (omega arith, (ap length (l .held .prio) ∙ l .held .order .prios, (first .0, first .1)))
@@ -135,26 +92,16 @@ set-level-requires c κs =
     let k = at.set-level-requires c in
     let m = k .pre .0 .0 in
     let l = k .pre .0 .1 in
-    let h = after m l (k .enqueue .ensures .1) (k .enqueue .ensures .0) in
+    let h = has-entered m l (k .enqueue .ensures .0) (k .enqueue .ensures .1) in
     (whole m _ _ _ _ (l .held), (omega (arith, l .held .order .cpus, l .cpu), level-ok m l h (k .first-level .ensures)))
 
 returns : tie.Need-returns
 returns c =
     let k = at.returns c in (
       λ m l.
-          let h = after m l (k .enqueue .ensures .1) (k .enqueue .ensures .0) in
-          let o = h .order in
+          let h = has-entered m l (k .enqueue .ensures .0) (k .enqueue .ensures .1) in
           record {
-            order = record {
-              cpus = o .cpus;
-              rows = o .rows;
-              prios = o .prios;
-              fits = o .fits;
-              tasks = o .tasks;
-              high = o .high;
-              flags = o .flags;
-              falling = o .falling;
-            };
+            order = h .order;
             prio = h .prio;
             counts = h .counts;
             rows = h .rows;

@@ -1,4 +1,4 @@
--- The places of `abi::qoriwesh_find` by name, and its needs that are plumbing. Written by `paths abi`: not to be edited.
+-- The places of `abi::qoriwesh_find` by name, and its needs that are plumbing. Written by `scripts/paths abi`: not to be edited.
 -- Assumes nothing.
 use Rattle.abi.proofs.qoriwesh_find.Statement.{statement}
 use Rattle.abi.proofs.qoriwesh_find.Tie as tie

@@ -1,8 +1,8 @@
--- `migration::settle::migrate` meets its contract. Assumes nothing.
-use mathlib.Core.Path.{_≡_, sym, ap, _∙_, subst}
+-- `migration::settle::migrate` meets its contract.
+-- Assumes nothing.
+use mathlib.Core.Path.{_≡_, sym, ap, _∙_}
 use mathlib.Core.List.{List}
 use Prim.Native.Nat.{ℕ, _<_}
-use native.Mathlib.Omega.{arith}
 use Rattle.cpupri.specs.Record.{recordOf}
 use Rattle.levels.specs.declared.record.Record.{Record}
 use Rattle.rules.specs.Lists.{In, delete}
@@ -15,7 +15,7 @@ use Rattle.rules.proofs.Room.{room-step}
 use Rattle.rules.proofs.Step.{origin-small}
 use Rattle.runqueue.specs.Table.{rowAt, rowsWith}
 use Rattle.placement.specs.Held.{Held, Entering}
-use Rattle.placement.proofs.Order.{holds, read-row, cpus-counted, fine-delete, held-row}
+use Rattle.placement.proofs.Joining.{can-leave, has-left}
 use Rattle.migration.specs.Settling.{Stepping}
 use Rattle.mover.proofs.Candidates.{tail-in}
 use Rattle.mover.proofs.Choose.{levels-left}
@@ -58,13 +58,8 @@ module _ {ps ks flat : List ℕ} {r : Record} {t o d : ℕ} (m : Machine) (s : S
         room = room-step m v (s .well) (s .applies);
       }
     where
-      row-is : rowAt ks flat o ≡ row m o
-      row-is = read-row m ps ks flat r (s .held) o
-
       left : Held (dequeue t o m) ps ks′ flat′ (recordOf (levels (dequeue t o m)))
-      left = held-row m ps ks flat r o (delete t (row m o)) (s .held) leaves-small (fine-delete m t o (s .held .order) stands) ks′ flat′
-          (ek ∙ ap (λ (q : List ℕ). rowCounts (rowsWith ks flat o (delete t q))) row-is)
-          (ef ∙ ap (λ (q : List ℕ). flatOf (rowsWith ks flat o (delete t q))) row-is)
+      left = has-left m t (s .held) leaves-small stands ef ek
 
 -- ---- the needs
 
@@ -73,8 +68,7 @@ dequeue-requires c κs =
     let k = at.dequeue-requires c in
     let m = k .pre .0 .0 in
     let s = k .pre .0 .1 in
-    let there = subst (In (k .args .task)) (sym (read-row m _ _ _ _ (s .held) (k .args .origin))) (stands m s) in
-    (holds m _ _ _ _ (s .held), (omega (arith, cpus-counted m _ _ _ _ (s .held), leaves-small m s), there))
+    can-leave m (k .args .task) (s .held) (leaves-small m s) (stands m s)
 
 enter-requires : tie.Need-enter-requires
 enter-requires c κs =

@@ -1,0 +1,4 @@
+-- The laws of the nine kinds.
+pub mod Planned
+pub mod Answers
+pub mod Plans
