@@ -1,3 +1,4 @@
 -- The laws of the search for the mover.
 pub mod Candidates
 pub mod Choose
+pub mod Idle

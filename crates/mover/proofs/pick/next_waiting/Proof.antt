@@ -1,4 +1,5 @@
 -- `mover::pick::next_waiting` meets its contract. The loop's invariant: nobody waits on the CPUs passed. Assumes nothing.
+use borrow.Author.Needs.{needs}
 use Prim.Native.Nat.{ℕ, _-_, _≤_, _<_}
 use native.Mathlib.Omega.{arith}
 use borrow.Author.Count.{below-more}
@@ -15,8 +16,11 @@ abbrev μ-loop : tie.MeasureT-loop
 none : {d from : ℕ} → d < from → from ≤ d → ⊥
 none l h = omega arith
 
+none-wait-requires : tie.Need-none-wait-requires Inv-loop μ-loop
+none-wait-requires c κs = search needs
+
 loop-holds : tie.Need-loop-holds Inv-loop μ-loop
-loop-holds c = (omega arith, omega arith, λ d l h. absurd (none l h))
+loop-holds c = let h = c .none-wait .ensures in (h .low, h .most, h .none)
 
 mul-if1 : tie.Need-mul-if1 Inv-loop μ-loop
 mul-if1 c = omega arith
@@ -51,6 +55,7 @@ next-waiting-spec =
     (tie.spec
     Inv-loop
     μ-loop
+    none-wait-requires
     loop-holds
     mul-if1
     shared-slice-read-if1
