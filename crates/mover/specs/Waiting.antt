@@ -4,13 +4,7 @@ use mathlib.Core.List.{List}
 use Prim.Native.Nat.{ℕ, _≤_, _<_}
 use lib.ListN.{getD}
 
--- nobody waits on the CPUs from `from` on and before r; ks are the counts of the rows
-pub record NoneWait (ks : List ℕ) (from n r : ℕ) : Type 0 where
-  pub low : from ≤ r
-  pub most : r ≤ n
-  pub none : (d : ℕ) → d < r → from ≤ d → getD ks d 0 < 2
-
--- r is the first CPU from `from` on where a task waits, or n if there is none
+-- r is the first CPU from `from` on where a task waits, or n if there is none; ks are the counts of the rows
 pub record NextWaiting (ks : List ℕ) (from n r : ℕ) : Type 0 where
   pub low : from ≤ r
   pub most : r ≤ n

@@ -1,13 +1,12 @@
 // The mover: the movable task of highest priority, among equals the one on the lowest-numbered CPU, and
 // among those the earliest in its row.
 ghost use mathlib.Core.Path.{_≡_};
-ghost use mathlib.Core.Bool.{true};
-ghost use Prim.Native.Nat.{ℕ, suc, _+_, _-_, _≤_, _<_};
+ghost use Prim.Native.Nat.{suc, _≤_, _<_};
 ghost use lib.ListN.{getD};
 ghost use Rattle.bits.specs.Moments.{old};
 ghost use Rattle.rules.specs.Machine.{Machine};
 ghost use Rattle.mover.specs.Foremost.{Looking, BestOf};
-ghost use Rattle.mover.specs.Waiting.{NextWaiting, NoneWait};
+ghost use Rattle.mover.specs.Waiting.{NextWaiting};
 use super::scan::scan;
 use cpupri::record::LEVELS;
 use runqueue::row::PLACES;
@@ -49,7 +48,7 @@ fn next_waiting(counts: &[u16], from: usize, n: usize) -> usize
     requires { do ⌜ ((from ≤ n) × (n ≤ (← ⟦counts.len()⟧))) ⌝ }
     ensures { λ r. ⌜ NextWaiting (old counts) from n r ⌝ }
 {
-    let mut next = none_wait(counts, from, n);
+    let mut next = from;
     while next < n {
         if counts[next] >= 2 {
             return next;
@@ -57,29 +56,6 @@ fn next_waiting(counts: &[u16], from: usize, n: usize) -> usize
         next += 1;
     }
     n
-}
-
-// Past CPUs on which nobody waits, four at a time.
-fn none_wait(counts: &[u16], from: usize, n: usize) -> usize
-    requires { do ⌜ ((from ≤ n) × (n ≤ (← ⟦counts.len()⟧))) ⌝ }
-    ensures { λ r. ⌜ NoneWait (old counts) from n r ⌝ }
-{
-    let mut next = from;
-    while 3 < n - next {
-        if !four_idle(counts, next) {
-            return next;
-        }
-        next += 4;
-    }
-    next
-}
-
-// Nobody waits on this CPU and the next three: each count is 0 or 1, and so are the four or'ed together.
-fn four_idle(counts: &[u16], at: usize) -> bool
-    requires { do ⌜ (at < (← ⟦counts.len()⟧) - 3) ⌝ }
-    ensures { λ r. ⌜ (r ≡ true → (d : ℕ) → at ≤ d → d < at + 4 → getD (old counts) d 0 < 2) ⌝ }
-{
-    (counts[at] | counts[at + 1] | counts[at + 2] | counts[at + 3]) < 2
 }
 
 // The better of the best so far and the waiting tasks of one more CPU.

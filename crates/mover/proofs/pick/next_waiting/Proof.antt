@@ -1,5 +1,4 @@
 -- `mover::pick::next_waiting` meets its contract. The loop's invariant: nobody waits on the CPUs passed. Assumes nothing.
-use borrow.Author.Needs.{needs}
 use Prim.Native.Nat.{ℕ, _-_, _≤_, _<_}
 use native.Mathlib.Omega.{arith}
 use borrow.Author.Count.{below-more}
@@ -16,11 +15,8 @@ abbrev μ-loop : tie.MeasureT-loop
 none : {d from : ℕ} → d < from → from ≤ d → ⊥
 none l h = omega arith
 
-none-wait-requires : tie.Need-none-wait-requires Inv-loop μ-loop
-none-wait-requires c κs = search needs
-
 loop-holds : tie.Need-loop-holds Inv-loop μ-loop
-loop-holds c = let h = c .none-wait .ensures in (h .low, h .most, h .none)
+loop-holds c = (omega arith, omega arith, λ d l h. absurd (none l h))
 
 mul-if1 : tie.Need-mul-if1 Inv-loop μ-loop
 mul-if1 c = omega arith
@@ -55,7 +51,6 @@ next-waiting-spec =
     (tie.spec
     Inv-loop
     μ-loop
-    none-wait-requires
     loop-holds
     mul-if1
     shared-slice-read-if1
