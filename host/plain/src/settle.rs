@@ -34,32 +34,17 @@ pub fn settle(t: &mut Tables, record: &mut Record) -> u32 {
 /// earliest in its row.
 fn pick(t: &Tables, masks: &[u64; LEVELS]) -> Option<Mover> {
     let mut best: Option<Mover> = None;
-    for (group, four) in t.counts.chunks(4).enumerate() {
-        // Nobody waits where a count is 0 or 1: most CPUs are passed over four at a time.
-        if four.iter().fold(0, |all, count| all | count) < 2 {
+    for (origin, &count) in t.counts.iter().enumerate() {
+        if count < 2 {
             continue;
         }
-        for (place, &count) in four.iter().enumerate().filter(|(_, &count)| count >= 2) {
-            let origin = 4 * group + place;
-            best = better(t, masks, origin, count, best);
-        }
+        let floor = best.as_ref().map_or(0, |mover| mover.prio);
+        let waiting = &t.rows[TASKS * origin..][1..count as usize];
+        best = first_movable(t, masks, waiting, floor)
+            .map(|(task, prio)| Mover { task, origin, prio })
+            .or(best);
     }
     best
-}
-
-/// The better of the best so far and the waiting tasks of one more CPU.
-fn better(
-    t: &Tables,
-    masks: &[u64; LEVELS],
-    origin: usize,
-    count: u16,
-    best: Option<Mover>,
-) -> Option<Mover> {
-    let floor = best.as_ref().map_or(0, |mover| mover.prio);
-    let waiting = &t.rows[TASKS * origin..][1..count as usize];
-    first_movable(t, masks, waiting, floor)
-        .map(|(task, prio)| Mover { task, origin, prio })
-        .or(best)
 }
 
 /// The first of the waiting tasks that is above the floor and has an allowed CPU below its level. Priorities fall
