@@ -7,7 +7,9 @@ pub mod Refusals
 pub mod Migration
 pub mod Outcome
 pub mod Cases
+pub mod Sentences
 pub mod Demand3
 pub mod Tables
 pub mod Entry
+pub mod LentCases
 pub mod LentDemand3
