@@ -21,6 +21,9 @@ add t p s = event 1 t fifo p s
 abbrev pub addRR : ℕ → ℕ → ℕ → Event
 addRR t p s = event 1 t rr p s
 
+abbrev pub remove : ℕ → Event
+remove t = event 2 t 0 0 0
+
 abbrev pub wake : ℕ → Event
 wake t = event 3 t 0 0 0
 
