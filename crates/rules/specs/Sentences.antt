@@ -63,7 +63,7 @@ adding =
 
 -- 2, remove (asleep): "free"
 abbrev pub removing : List Case
-removing = case 2 (add 0 50 3 ∷ add 1 40 2 ∷ []) (remove 0) (gives 0 [] (idleCpu ∷ idleCpu ∷ []) (sleeps 1 40 1 2 ∷ [])) ∷ []
+removing = case 2 (add 0 50 3 ∷ add 5 40 2 ∷ []) (remove 5) (gives 0 [] (idleCpu ∷ idleCpu ∷ []) (sleeps 0 50 0 3 ∷ [])) ∷ []
 
 -- 3, wake (asleep): "runnable; enters the row of its CPU if allowed"
 abbrev pub waking : List Case
@@ -120,7 +120,7 @@ abbrev pub maskingHere : List Case
 maskingHere =
     case 2 (ranRR ++ add 1 20 1 ∷ wake 1 ∷ []) (affinity 0 3)
     (gives 0 [] (busy 22 (0 ∷ 1 ∷ []) ∷ idleCpu ∷ []) (runsRR 0 20 0 99 3 ∷ runs 1 20 0 1 ∷ []))
-    ∷ case 2 (add 0 40 2 ∷ wake 0 ∷ []) (affinity 0 3) (gives 0 [] (idleCpu ∷ busy 42 (0 ∷ []) ∷ []) (runs 0 40 1 3 ∷ []))
+    ∷ case 2 (add 5 40 2 ∷ wake 5 ∷ []) (affinity 5 3) (gives 0 [] (idleCpu ∷ busy 42 (5 ∷ []) ∷ []) (runs 5 40 1 3 ∷ []))
     ∷ []
 
 -- "Else leaves, and enters the row of the lowest-numbered allowed CPU": CPU 1, behind task 1, and from there it migrates to the idle CPU 2
@@ -157,7 +157,8 @@ abbrev pub yielding : List Case
 yielding =
     case 1 (addRR 0 20 1 ∷ addRR 1 20 1 ∷ addRR 2 10 1 ∷ wake 0 ∷ wake 1 ∷ wake 2 ∷ tick 0 ∷ []) (yield 0)
     (gives 0 [] (busy 22 (1 ∷ 0 ∷ 2 ∷ []) ∷ []) (runsRR 0 20 0 99 1 ∷ runsRR 1 20 0 100 1 ∷ runsRR 2 10 0 100 1 ∷ []))
-    ∷ case 1 (add 0 20 1 ∷ add 1 20 1 ∷ wake 0 ∷ wake 1 ∷ []) (yield 0) (gives 0 [] (busy 22 (1 ∷ 0 ∷ []) ∷ []) (runs 0 20 0 1 ∷ runs 1 20 0 1 ∷ []))
+    ∷ case 2 (add 5 20 2 ∷ add 6 20 2 ∷ wake 5 ∷ wake 6 ∷ []) (yield 1)
+    (gives 0 [] (idleCpu ∷ busy 22 (6 ∷ 5 ∷ []) ∷ []) (runs 5 20 1 2 ∷ runs 6 20 1 2 ∷ []))
     ∷ []
 
 -- 9, ordinary work: "the flag is b"; a CPU that runs a task keeps that task's level
