@@ -96,9 +96,12 @@ busy l r = record { level = l; flag = 0; row = r }
 abbrev pub idleCpu : Cpu
 idleCpu = busy 0 []
 
--- a CPU that has ordinary work only
+-- a CPU with ordinary work, and one with nothing else
+abbrev pub shared : ℕ → List ℕ → Cpu
+shared l r = record { level = l; flag = 1; row = r }
+
 abbrev pub ordinaryCpu : Cpu
-ordinaryCpu = record { level = 1; flag = 1; row = [] }
+ordinaryCpu = shared 1 []
 
 -- task t, and its columns: state, policy, priority, CPU, slice, mask
 abbrev pub task : ℕ → ℕ → ℕ → ℕ → ℕ → ℕ → ℕ → Used

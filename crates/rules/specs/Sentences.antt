@@ -7,13 +7,17 @@ use lib.ListN.{replicate}
 use Rattle.rules.specs.Machine.{runnable, asleep, rr, fullSlice}
 use Rattle.rules.specs.Events.{Event, event}
 use Rattle.rules.specs.Cases.{add, addRR, remove, wake, sleep, priority, affinity, tick, yield, ordinary, after2}
-use Rattle.rules.specs.Cases.{Used, busy, idleCpu, ordinaryCpu, task, runs, sleeps, gives, refuses, Case, case, fresh2, asleep2, runs2}
+use Rattle.rules.specs.Cases.{Used, busy, idleCpu, shared, ordinaryCpu, task, runs, sleeps, gives, refuses, Case, case, fresh2, asleep2, runs2}
 
 -- an RR task in row c, with the slice l
 abbrev pub runsRR : ℕ → ℕ → ℕ → ℕ → ℕ → Used
 runsRR t p c l k = task t runnable rr p c l k
 
--- an RR task of CPU 0 that has run for one tick of its slice
+-- a full slice less one tick
+abbrev pub afterTick : ℕ
+afterTick = 99
+
+-- an RR task of CPU 0 that has run for one tick
 abbrev pub ranRR : List Event
 ranRR = addRR 0 20 1 ∷ wake 0 ∷ tick 0 ∷ []
 
@@ -27,16 +31,23 @@ sleptRR = ranRR ++ sleep 0 ∷ []
 abbrev pub noise : ℕ
 noise = 2 ^ 64 - 1
 
+-- task 0 sleeps, or runs, where both CPUs have ordinary work: only kind 9 changes that
+abbrev pub asleepShared : List Event
+asleepShared = ordinary 0 1 ∷ ordinary 1 1 ∷ add 0 50 3 ∷ []
+
+abbrev pub runsShared : List Event
+runsShared = asleepShared ++ wake 0 ∷ []
+
 abbrev pub unusedNumbers : List Case
 unusedNumbers =
-    case 2 (add 0 50 3 ∷ []) (event 2 0 noise noise noise) (gives 0 [] (idleCpu ∷ idleCpu ∷ []) [])
-    ∷ case 2 (add 0 50 3 ∷ []) (event 3 0 noise noise noise) (gives 0 [] (busy 52 (0 ∷ []) ∷ idleCpu ∷ []) (runs 0 50 0 3 ∷ []))
-    ∷ case 2 (add 0 50 3 ∷ wake 0 ∷ []) (event 4 0 noise noise noise) (gives 0 [] (idleCpu ∷ idleCpu ∷ []) (sleeps 0 50 0 3 ∷ []))
-    ∷ case 2 (add 0 50 3 ∷ []) (event 5 0 noise 60 noise) (gives 0 [] (idleCpu ∷ idleCpu ∷ []) (sleeps 0 60 0 3 ∷ []))
-    ∷ case 2 (add 0 50 3 ∷ []) (event 6 0 noise noise 1) (gives 0 [] (idleCpu ∷ idleCpu ∷ []) (sleeps 0 50 0 1 ∷ []))
-    ∷ case 2 (add 0 50 3 ∷ wake 0 ∷ []) (event 7 0 noise noise noise) (gives 0 [] (busy 52 (0 ∷ []) ∷ idleCpu ∷ []) (runs 0 50 0 3 ∷ []))
-    ∷ case 2 (add 0 50 3 ∷ wake 0 ∷ []) (event 8 0 noise noise noise) (gives 0 [] (busy 52 (0 ∷ []) ∷ idleCpu ∷ []) (runs 0 50 0 3 ∷ []))
-    ∷ case 2 [] (event 9 1 noise 1 noise) (gives 0 [] (idleCpu ∷ ordinaryCpu ∷ []) [])
+    case 2 asleepShared (event 2 0 noise noise noise) (gives 0 [] (ordinaryCpu ∷ ordinaryCpu ∷ []) [])
+    ∷ case 2 asleepShared (event 3 0 noise noise noise) (gives 0 [] (shared 52 (0 ∷ []) ∷ ordinaryCpu ∷ []) (runs 0 50 0 3 ∷ []))
+    ∷ case 2 runsShared (event 4 0 noise noise noise) (gives 0 [] (ordinaryCpu ∷ ordinaryCpu ∷ []) (sleeps 0 50 0 3 ∷ []))
+    ∷ case 2 runsShared (event 5 0 noise 60 noise) (gives 0 [] (shared 62 (0 ∷ []) ∷ ordinaryCpu ∷ []) (runs 0 60 0 3 ∷ []))
+    ∷ case 2 runsShared (event 6 0 noise noise 2) (gives 0 [] (ordinaryCpu ∷ shared 52 (0 ∷ []) ∷ []) (runs 0 50 1 2 ∷ []))
+    ∷ case 2 runsShared (event 7 0 noise noise noise) (gives 0 [] (shared 52 (0 ∷ []) ∷ ordinaryCpu ∷ []) (runs 0 50 0 3 ∷ []))
+    ∷ case 2 runsShared (event 8 0 noise noise noise) (gives 0 [] (shared 52 (0 ∷ []) ∷ ordinaryCpu ∷ []) (runs 0 50 0 3 ∷ []))
+    ∷ case 2 runsShared (event 9 1 noise 0 noise) (gives 0 [] (shared 52 (0 ∷ []) ∷ idleCpu ∷ []) (runs 0 50 0 3 ∷ []))
     ∷ []
 
 -- "Entering a row means standing behind every task of the same or a higher priority and before all lower ones"
@@ -75,27 +86,27 @@ waking =
 -- "else of the lowest-numbered allowed CPU, which becomes its CPU; slice kept"
 abbrev pub wakingElsewhere : List Case
 wakingElsewhere =
-    case 3 (sleptRR ++ affinity 0 6 ∷ []) (wake 0) (gives 0 [] (idleCpu ∷ busy 22 (0 ∷ []) ∷ idleCpu ∷ []) (runsRR 0 20 1 99 6 ∷ []))
-    ∷ case 3 sleptRR (wake 0) (gives 0 [] (busy 22 (0 ∷ []) ∷ idleCpu ∷ idleCpu ∷ []) (runsRR 0 20 0 99 1 ∷ []))
+    case 3 (sleptRR ++ affinity 0 6 ∷ []) (wake 0) (gives 0 [] (idleCpu ∷ busy 22 (0 ∷ []) ∷ idleCpu ∷ []) (runsRR 0 20 1 afterTick 6 ∷ []))
+    ∷ case 3 sleptRR (wake 0) (gives 0 [] (busy 22 (0 ∷ []) ∷ idleCpu ∷ idleCpu ∷ []) (runsRR 0 20 0 afterTick 1 ∷ []))
     ∷ []
 
 -- 4, sleep (runnable): "leaves its row; CPU and slice kept"
 abbrev pub sleeping : List Case
 sleeping =
-    case 2 (addRR 0 20 2 ∷ wake 0 ∷ tick 1 ∷ []) (sleep 0) (gives 0 [] (idleCpu ∷ idleCpu ∷ []) (task 0 asleep rr 20 1 99 2 ∷ [])) ∷ []
+    case 2 (addRR 0 20 2 ∷ wake 0 ∷ tick 1 ∷ []) (sleep 0) (gives 0 [] (idleCpu ∷ idleCpu ∷ []) (task 0 asleep rr 20 1 afterTick 2 ∷ [])) ∷ []
 
 -- 5, priority: "asleep: the number only"
 abbrev pub prioritisingSleeper : List Case
 prioritisingSleeper =
     case 2 (addRR 0 50 2 ∷ wake 0 ∷ tick 1 ∷ sleep 0 ∷ affinity 0 3 ∷ []) (priority 0 60)
-    (gives 0 [] (idleCpu ∷ idleCpu ∷ []) (task 0 asleep rr 60 1 99 3 ∷ []))
+    (gives 0 [] (idleCpu ∷ idleCpu ∷ []) (task 0 asleep rr 60 1 afterTick 3 ∷ []))
     ∷ []
 
 -- "Runnable and unchanged: nothing."
 abbrev pub prioritisingSame : List Case
 prioritisingSame =
     case 1 (ranRR ++ add 1 20 1 ∷ wake 1 ∷ []) (priority 0 20)
-    (gives 0 [] (busy 22 (0 ∷ 1 ∷ []) ∷ []) (runsRR 0 20 0 99 1 ∷ runs 1 20 0 1 ∷ []))
+    (gives 0 [] (busy 22 (0 ∷ 1 ∷ []) ∷ []) (runsRR 0 20 0 afterTick 1 ∷ runs 1 20 0 1 ∷ []))
     ∷ []
 
 -- "Runnable and changed: leaves, then enters the same row": lower, to the priority of another, above it, and on CPU 1 of two that are allowed
@@ -108,18 +119,18 @@ prioritising =
     ∷ case 1 (add 0 50 1 ∷ add 1 30 1 ∷ wake 0 ∷ wake 1 ∷ []) (priority 1 60)
     (gives 0 [] (busy 62 (1 ∷ 0 ∷ []) ∷ []) (runs 0 50 0 1 ∷ runs 1 60 0 1 ∷ []))
     ∷ case 2 (add 0 50 3 ∷ addRR 1 40 3 ∷ wake 1 ∷ wake 0 ∷ tick 1 ∷ []) (priority 1 45)
-    (gives 0 [] (busy 52 (0 ∷ []) ∷ busy 47 (1 ∷ []) ∷ []) (runs 0 50 0 3 ∷ runsRR 1 45 1 99 3 ∷ []))
+    (gives 0 [] (busy 52 (0 ∷ []) ∷ busy 47 (1 ∷ []) ∷ []) (runs 0 50 0 3 ∷ runsRR 1 45 1 afterTick 3 ∷ []))
     ∷ []
 
 -- 6, mask: "asleep: the mask only"; W2: "A sleeper's CPU need not be allowed."
 abbrev pub maskingSleeper : List Case
-maskingSleeper = case 2 sleptRR (affinity 0 2) (gives 0 [] (idleCpu ∷ idleCpu ∷ []) (task 0 asleep rr 20 0 99 2 ∷ [])) ∷ []
+maskingSleeper = case 2 sleptRR (affinity 0 2) (gives 0 [] (idleCpu ∷ idleCpu ∷ []) (task 0 asleep rr 20 0 afterTick 2 ∷ [])) ∷ []
 
 -- "Runnable and its CPU still allowed: the mask only": it stays before its equal, and on its CPU though a lower-numbered one is now allowed
 abbrev pub maskingHere : List Case
 maskingHere =
     case 2 (ranRR ++ add 1 20 1 ∷ wake 1 ∷ []) (affinity 0 3)
-    (gives 0 [] (busy 22 (0 ∷ 1 ∷ []) ∷ idleCpu ∷ []) (runsRR 0 20 0 99 3 ∷ runs 1 20 0 1 ∷ []))
+    (gives 0 [] (busy 22 (0 ∷ 1 ∷ []) ∷ idleCpu ∷ []) (runsRR 0 20 0 afterTick 3 ∷ runs 1 20 0 1 ∷ []))
     ∷ case 2 (add 5 40 2 ∷ wake 5 ∷ []) (affinity 5 3) (gives 0 [] (idleCpu ∷ busy 42 (5 ∷ []) ∷ []) (runs 5 40 1 3 ∷ []))
     ∷ []
 
@@ -127,7 +138,7 @@ maskingHere =
 abbrev pub maskingAway : List Case
 maskingAway =
     case 3 (ranRR ++ add 1 60 2 ∷ wake 1 ∷ []) (affinity 0 6)
-    (gives 1 (0 ∷ 1 ∷ 2 ∷ []) (idleCpu ∷ busy 62 (1 ∷ []) ∷ busy 22 (0 ∷ []) ∷ []) (runsRR 0 20 2 99 6 ∷ runs 1 60 1 2 ∷ []))
+    (gives 1 (0 ∷ 1 ∷ 2 ∷ []) (idleCpu ∷ busy 62 (1 ∷ []) ∷ busy 22 (0 ∷ []) ∷ []) (runsRR 0 20 2 afterTick 6 ∷ runs 1 60 1 2 ∷ []))
     ∷ []
 
 -- 7, tick: "first task RR: slice less 1": that task alone
@@ -156,7 +167,7 @@ tickingNone =
 abbrev pub yielding : List Case
 yielding =
     case 1 (addRR 0 20 1 ∷ addRR 1 20 1 ∷ addRR 2 10 1 ∷ wake 0 ∷ wake 1 ∷ wake 2 ∷ tick 0 ∷ []) (yield 0)
-    (gives 0 [] (busy 22 (1 ∷ 0 ∷ 2 ∷ []) ∷ []) (runsRR 0 20 0 99 1 ∷ runsRR 1 20 0 100 1 ∷ runsRR 2 10 0 100 1 ∷ []))
+    (gives 0 [] (busy 22 (1 ∷ 0 ∷ 2 ∷ []) ∷ []) (runsRR 0 20 0 afterTick 1 ∷ runsRR 1 20 0 fullSlice 1 ∷ runsRR 2 10 0 fullSlice 1 ∷ []))
     ∷ case 2 (add 5 20 2 ∷ add 6 20 2 ∷ wake 5 ∷ wake 6 ∷ []) (yield 1)
     (gives 0 [] (idleCpu ∷ busy 22 (6 ∷ 5 ∷ []) ∷ []) (runs 5 20 1 2 ∷ runs 6 20 1 2 ∷ []))
     ∷ []
@@ -165,7 +176,7 @@ yielding =
 abbrev pub ordinaryWork : List Case
 ordinaryWork =
     case 2 (add 0 50 1 ∷ wake 0 ∷ []) (ordinary 0 1)
-    (gives 0 [] (record { level = 52; flag = 1; row = 0 ∷ [] } ∷ idleCpu ∷ []) (runs 0 50 0 1 ∷ []))
+    (gives 0 [] (shared 52 (0 ∷ []) ∷ idleCpu ∷ []) (runs 0 50 0 1 ∷ []))
     ∷ case 2 (ordinary 0 1 ∷ ordinary 1 1 ∷ []) (ordinary 0 0) (gives 0 [] (idleCpu ∷ ordinaryCpu ∷ []) [])
     ∷ []
 
@@ -175,14 +186,18 @@ ordinaryWork =
 abbrev pub movableLevels : List Case
 movableLevels =
     case 2 (ordinary 1 1 ∷ add 0 50 3 ∷ add 1 1 3 ∷ wake 0 ∷ []) (wake 1)
-    (gives 1 (1 ∷ 0 ∷ 1 ∷ []) (busy 52 (0 ∷ []) ∷ record { level = 3; flag = 1; row = 1 ∷ [] } ∷ []) (runs 0 50 0 3 ∷ runs 1 1 1 3 ∷ []))
+    (gives 1 (1 ∷ 0 ∷ 1 ∷ []) (busy 52 (0 ∷ []) ∷ shared 3 (1 ∷ []) ∷ []) (runs 0 50 0 3 ∷ runs 1 1 1 3 ∷ []))
     ∷ []
 
--- "Then migration steps are taken until none applies.": after any event, here a waiting task's mask; and three of them
+-- "Then migration steps are taken until none applies.": after any event, here a waiting task's mask, a priority and a yield; and three of them
 abbrev pub stepsTaken : List Case
 stepsTaken =
     case 2 (add 0 50 1 ∷ add 1 40 1 ∷ wake 0 ∷ wake 1 ∷ []) (affinity 1 3)
     (gives 1 (1 ∷ 0 ∷ 1 ∷ []) (busy 52 (0 ∷ []) ∷ busy 42 (1 ∷ []) ∷ []) (runs 0 50 0 1 ∷ runs 1 40 1 3 ∷ []))
+    ∷ case 2 (add 0 50 3 ∷ add 1 40 1 ∷ wake 0 ∷ wake 1 ∷ []) (priority 0 30)
+    (gives 1 (0 ∷ 0 ∷ 1 ∷ []) (busy 42 (1 ∷ []) ∷ busy 32 (0 ∷ []) ∷ []) (runs 0 30 1 3 ∷ runs 1 40 0 1 ∷ []))
+    ∷ case 2 (add 0 20 3 ∷ add 1 20 1 ∷ wake 0 ∷ wake 1 ∷ []) (yield 0)
+    (gives 1 (0 ∷ 0 ∷ 1 ∷ []) (busy 22 (1 ∷ []) ∷ busy 22 (0 ∷ []) ∷ []) (runs 0 20 1 3 ∷ runs 1 20 0 1 ∷ []))
     ∷ case 4 (add 0 40 3 ∷ add 1 30 6 ∷ add 2 20 12 ∷ add 3 10 8 ∷ add 4 50 1 ∷ wake 0 ∷ wake 1 ∷ wake 2 ∷ wake 3 ∷ []) (wake 4)
     (gives 3 (0 ∷ 0 ∷ 1 ∷ 1 ∷ 1 ∷ 2 ∷ 2 ∷ 2 ∷ 3 ∷ []) (busy 52 (4 ∷ []) ∷ busy 42 (0 ∷ []) ∷ busy 32 (1 ∷ []) ∷ busy 22 (2 ∷ 3 ∷ []) ∷ [])
     (runs 0 40 1 3 ∷ runs 1 30 2 6 ∷ runs 2 20 3 12 ∷ runs 3 10 3 8 ∷ runs 4 50 0 1 ∷ []))
@@ -228,7 +243,7 @@ destinationLowest =
 abbrev pub migratingSlice : List Case
 migratingSlice =
     case 2 (addRR 0 20 3 ∷ add 1 50 1 ∷ wake 0 ∷ tick 0 ∷ []) (wake 1)
-    (gives 1 (0 ∷ 0 ∷ 1 ∷ []) (busy 52 (1 ∷ []) ∷ busy 22 (0 ∷ []) ∷ []) (runsRR 0 20 1 99 3 ∷ runs 1 50 0 1 ∷ []))
+    (gives 1 (0 ∷ 0 ∷ 1 ∷ []) (busy 52 (1 ∷ []) ∷ busy 22 (0 ∷ []) ∷ []) (runsRR 0 20 1 afterTick 3 ∷ runs 1 50 0 1 ∷ []))
     ∷ []
 
 -- ---- refusals: "Checked in this order. A refusal reports 0 moves and changes nothing."
