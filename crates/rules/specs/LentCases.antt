@@ -180,7 +180,8 @@ lengths =
 
 -- ---- the entries
 
--- "A fresh machine has all places free, rows empty, flags 0; every log number is set to 65535. Old table contents don't matter to the fresh maker."
+-- "A fresh machine has all places free, rows empty, flags 0; every log number is set to 65535."; "Old table contents don't
+-- matter to the fresh maker."
 abbrev pub freshMade : List LentCase
 freshMade =
     let zeros : List ℕ = replicate 512 0 in
@@ -194,7 +195,7 @@ freshMade =
     }
     ∷ []
 
--- "2: W1 to W6 fail anywhere", before "3: kind not 1 to 9"; "A refusal reports 0 moves and changes nothing."
+-- 2, "W1 to W6 fail anywhere", before 3, "kind not 1 to 9"; "A refusal reports 0 moves and changes nothing."
 abbrev pub illFormedFirst : List LentCase
 illFormedFirst = checking 2 (dirty 2) ∷ answers 2 (handle (event 0 0 0 0 0)) 2 record2 (withEntry Column.state 2 3 lent2) ∷ []
 

@@ -246,7 +246,7 @@ migratingSlice =
     (gives 1 (0 ∷ 0 ∷ 1 ∷ []) (busy 52 (1 ∷ []) ∷ busy 22 (0 ∷ []) ∷ []) (runsRR 0 20 1 afterTick 3 ∷ runs 1 50 0 1 ∷ []))
     ∷ []
 
--- ---- refusals: "Checked in this order. A refusal reports 0 moves and changes nothing."
+-- ---- refusals: "Checked in this order."; "A refusal reports 0 moves and changes nothing."
 
 -- 3: "kind not 1 to 9", whatever else is wrong
 abbrev pub refusal3 : List Case
