@@ -111,7 +111,7 @@ w1 =
 -- "W2. Otherwise policy 1 or 2, priority 1 to 99, CPU below N, slice 1 to 100, mask not 0 and without bits at N or above."
 abbrev pub w2 : List LentCase
 w2 =
-    checking 0 lent2 ∷ badEntry Column.policy 2 0 ∷ badEntry Column.policy 2 3 ∷ badEntry Column.prio 2 0 ∷ badEntry Column.prio 2 100
+    badEntry Column.policy 2 0 ∷ badEntry Column.policy 2 3 ∷ badEntry Column.prio 2 0 ∷ badEntry Column.prio 2 100
     ∷ badEntry Column.cpu 2 2 ∷ badEntry Column.slice 2 0 ∷ badEntry Column.slice 2 101 ∷ badEntry Column.mask 2 0 ∷ badEntry Column.mask 2 5 ∷ []
 
 -- "W3. Row counts are at most 512; places before the count hold numbers below 512, the rest 65535. Flags are 0 or 1."
@@ -141,11 +141,10 @@ w5 = answers 2 check 2 (atLevels 100 1) (withEntry Column.prio 0 98 lent2) ∷ [
 abbrev pub w6 : List LentCase
 w6 =
     badRecord (lentRecord (0 ∷ 3 ∷ replicate 99 0 ++ 1 ∷ []) (record2 .counts) (record2 .words) (record2 .levels))
-    ∷ badRecord (lentRecord (record2 .masks) (0 ∷ 2 ∷ replicate 99 0 ++ 1 ∷ []) (record2 .words) (record2 .levels))
-    ∷ badRecord (lentRecord (record2 .masks) (record2 .counts) (0 ∷ 2 ^ 37 ∷ []) (record2 .levels))
     ∷ badRecord (lentRecord (record2 .masks) (record2 .counts) (2 ∷ (2 ^ 37 + 2 ^ 63) ∷ []) (record2 .levels))
-    ∷ badRecord (atLevels 101 2) ∷ badRecord (atLevels 100 1) ∷ badRecord (atLevels 101 0)
-    ∷ badRecord (recordOf (101 ∷ 1 ∷ 0 ∷ replicate 61 255)) ∷ []
+    ∷ badRecord (lentRecord (0 ∷ 0 ∷ 2 ∷ replicate 98 0 ++ 1 ∷ []) (0 ∷ 0 ∷ 1 ∷ replicate 98 0 ++ 1 ∷ []) (4 ∷ 2 ^ 37 ∷ []) (101 ∷ 2 ∷ replicate 62 255))
+    ∷ badRecord (lentRecord (4 ∷ 2 ∷ replicate 99 0 ++ 1 ∷ []) (1 ∷ 1 ∷ replicate 99 0 ++ 1 ∷ []) (3 ∷ 2 ^ 37 ∷ []) (101 ∷ 1 ∷ 0 ∷ replicate 61 255))
+    ∷ checking 2 (withEntry Column.prio 0 98 (withEntry Column.prio 1 98 lent2)) ∷ checking 2 (withFlags (0 ∷ 0 ∷ []) lent2) ∷ []
 
 -- ---- refusal 1
 
@@ -199,8 +198,8 @@ freshMade =
 abbrev pub illFormedFirst : List LentCase
 illFormedFirst = checking 2 (dirty 2) ∷ answers 2 (handle (event 0 0 0 0 0)) 2 record2 (withEntry Column.state 2 3 lent2) ∷ []
 
--- "Accepted is 0 with the number of moves; log entries from that number on stay as they were.": a tick of the empty row does nothing, then task 1
--- migrates to CPU 1
+-- "Accepted is 0 with the number of moves; log entries from that number on stay as they were.": the machine above passes the check, a tick of its
+-- empty row does nothing, then task 1 migrates to CPU 1
 abbrev pub handledMove : List LentCase
 handledMove =
     record {
@@ -238,6 +237,5 @@ finds n r l k a v u = record { n = n; cpupri = r; level = l; mask = k; expected 
 -- record is inconsistent in itself"; 7, "finder: level over 101"; 8, "mask 0, or a bit at N or above"
 abbrev pub finderCases : List FinderCase
 finderCases =
-    finds 2 record2 101 3 0 1 2 ∷ finds 2 record2 101 1 0 255 0 ∷ finds 2 record2 1 3 0 255 0 ∷ finds 0 noRecord 102 0 1 255 0
-    ∷ finds 65 noRecord 102 0 1 255 0 ∷ finds 2 noRecord 102 0 2 255 0 ∷ finds 2 record2 102 0 7 255 0 ∷ finds 2 record2 101 0 8 255 0
-    ∷ finds 2 record2 101 4 8 255 0 ∷ []
+    finds 2 record2 101 3 0 1 2 ∷ finds 2 record2 101 1 0 255 0 ∷ finds 0 noRecord 102 0 1 255 0 ∷ finds 65 noRecord 102 0 1 255 0
+    ∷ finds 2 noRecord 102 0 2 255 0 ∷ finds 2 record2 102 0 7 255 0 ∷ finds 2 record2 101 4 8 255 0 ∷ []
