@@ -1,4 +1,4 @@
--- The laws of the rules. `AllCases` has K1 to K12, `Demand3` demand 3, `Room` the room theorem, `Entry` what the public entries promise.
+-- The laws of the rules. `AllCases` has K1 to K12 and the other cases, `Demand3` demand 3, `Room` the room theorem, `Entry` what the public entries promise.
 pub mod AllCases
 pub mod Bools
 pub mod Lists
@@ -22,4 +22,3 @@ pub mod Log
 pub mod Entry
 pub mod First
 pub mod LentDemand3
-pub mod LentCase

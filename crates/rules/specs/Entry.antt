@@ -41,7 +41,7 @@ sizeCheck n s = record { number = badSize; fails = not (lengthsFit n s) }
 abbrev pub formCheck : ℕ → Record → Tables → Check
 formCheck n r s = record { number = illFormed; fails = not (tablesFit n r s) }
 
--- W1 to W6 of what is lent, and its lengths
+-- W1 to W6 of what is lent, and its lengths: what `checked` tests, in the paper's words (proofs/Entry.antt)
 pub record Good (n : ℕ) (r : Record) (s : Tables) : Type 0 where
   pub machine : WellFormed (machineOf n s)
   pub rows : length (s .rows) ≡ taskPlaces * n

@@ -55,7 +55,7 @@ abbrev pub Applies : ℕ → List Check → Type 0
 Applies k [] = ⊥
 Applies k (c ∷ cs) = ((c .fails ≡ true) × (c .number ≡ k)) ⊎ Applies k cs
 
--- k is the first number that applies
+-- k is the first number that applies: so the answer, in the paper's words (proofs/First.antt)
 pub record First (k : ℕ) (cs : List Check) : Type 0 where
   pub applies : Applies k cs
   pub least : (j : ℕ) → Applies j cs → k ≤ j

@@ -84,6 +84,7 @@ tablesOf m log =
 
 -- ---- W3 of the stored rows
 
+-- what `storedRows` below tests, in the paper's words: proofs/Tables.antt
 pub record Stored (counts flat : List ℕ) : Type 0 where
   pub counted : (c : ℕ) → c < length counts → getD counts c 0 ≤ taskPlaces
   pub used : (c i : ℕ) → c < length counts → i < getD counts c 0 → getD flat (taskPlaces * c + i) 0 < taskPlaces

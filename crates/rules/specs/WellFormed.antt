@@ -50,6 +50,7 @@ pub data Sound (n : ℕ) (τ : Task) : Type 0 where
 abbrev pub standing : Task → ℕ → ℕ
 standing τ c = digit (eqb (τ .state) runnable && eqb (τ .cpu) c)
 
+-- what `shaped` and `wellFormed` below test, in the paper's words: proofs/Test.antt
 pub record WellFormed (m : Machine) : Type 0 where
   pub shape : Shape m
   -- W1, W2

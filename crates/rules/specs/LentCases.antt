@@ -1,0 +1,241 @@
+-- Cases over what the caller lends, through the three public entries and the finder. The paper's words stand above each; tables, record and what comes back
+-- are written out number by number.
+-- Assumes nothing.
+use mathlib.Core.List.{List, [], _∷_, _++_, tail}
+use Prim.Native.Nat.{ℕ, _+_, _*_, _^_}
+use lib.ListN.{set, replicate}
+use Rattle.cpupri.specs.Found.{Answer, found}
+use Rattle.cpupri.specs.Record.{recordOf, lentRecord}
+use Rattle.levels.specs.declared.record.Record.{Record}
+use Rattle.rules.specs.Machine.{Column}
+use Rattle.rules.specs.Events.{Event, event}
+use Rattle.rules.specs.Cases.{tick}
+use Rattle.rules.specs.Tables.{Tables}
+use Rattle.rules.specs.Entry.{Result, result, checked, made, handled}
+
+-- ---- calls
+
+pub data Call : Type 0 where
+  make : Call
+  check : Call
+  handle : Event → Call
+
+-- what a call hands back; the checker changes nothing
+abbrev pub called : Call → ℕ → Record → Tables → Result
+called make n r s = made n r s
+called check n r s = result (checked n r s) 0 r s
+called (handle e) n r s = handled n r s e
+
+pub record LentCase : Type 0 where
+  pub call : Call
+  pub n : ℕ
+  pub cpupri : Record
+  pub tables : Tables
+  pub expected : Result
+
+abbrev pub returned : LentCase → Result
+returned k = called (k .call) (k .n) (k .cpupri) (k .tables)
+
+-- refused, or checked: the answer, no moves, and all as it was lent
+abbrev pub answers : ℕ → Call → ℕ → Record → Tables → LentCase
+answers a f n r s = record { call = f; n = n; cpupri = r; tables = s; expected = result a 0 r s }
+
+-- ---- tables
+
+-- columns state, policy, priority, CPU, slice, mask; rows, their counts; flags; log
+abbrev pub lend : List ℕ → List ℕ → List ℕ → List ℕ → List ℕ → List ℕ → List ℕ → List ℕ → List ℕ → List ℕ → Tables
+lend ss ps qs cs ls ks rs ns fs log =
+    record { state = ss; policy = ps; prio = qs; cpu = cs; slice = ls; mask = ks; rows = rs; counts = ns; flags = fs; log = log }
+
+abbrev pub inColumn : Column → (List ℕ → List ℕ) → Tables → Tables
+inColumn Column.state f s = lend (f (s .state)) (s .policy) (s .prio) (s .cpu) (s .slice) (s .mask) (s .rows) (s .counts) (s .flags) (s .log)
+inColumn Column.policy f s = lend (s .state) (f (s .policy)) (s .prio) (s .cpu) (s .slice) (s .mask) (s .rows) (s .counts) (s .flags) (s .log)
+inColumn Column.prio f s = lend (s .state) (s .policy) (f (s .prio)) (s .cpu) (s .slice) (s .mask) (s .rows) (s .counts) (s .flags) (s .log)
+inColumn Column.cpu f s = lend (s .state) (s .policy) (s .prio) (f (s .cpu)) (s .slice) (s .mask) (s .rows) (s .counts) (s .flags) (s .log)
+inColumn Column.slice f s = lend (s .state) (s .policy) (s .prio) (s .cpu) (f (s .slice)) (s .mask) (s .rows) (s .counts) (s .flags) (s .log)
+inColumn Column.mask f s = lend (s .state) (s .policy) (s .prio) (s .cpu) (s .slice) (f (s .mask)) (s .rows) (s .counts) (s .flags) (s .log)
+
+abbrev pub withEntry : Column → ℕ → ℕ → Tables → Tables
+withEntry k t v s = inColumn k (λ xs. set xs t v) s
+
+abbrev pub withRows : List ℕ → List ℕ → Tables → Tables
+withRows rs ns s = lend (s .state) (s .policy) (s .prio) (s .cpu) (s .slice) (s .mask) rs ns (s .flags) (s .log)
+
+abbrev pub withFlags : List ℕ → Tables → Tables
+withFlags fs s = lend (s .state) (s .policy) (s .prio) (s .cpu) (s .slice) (s .mask) (s .rows) (s .counts) fs (s .log)
+
+abbrev pub withLog : List ℕ → Tables → Tables
+withLog log s = lend (s .state) (s .policy) (s .prio) (s .cpu) (s .slice) (s .mask) (s .rows) (s .counts) (s .flags) log
+
+-- ---- a well-formed machine of two CPUs
+-- Task 0 runs on CPU 0 and task 1, its equal, waits there; CPU 1 has ordinary work, and task 1 could use it: "A machine need not be settled (no
+-- task movable) to be well-formed". Task 2 sleeps on CPU 1, which its mask does not allow: "A sleeper's CPU need not be allowed." The columns
+-- hold the bounds of W2: policies 1 and 2, priorities 1 and 99, slices 1 and 100.
+
+abbrev pub lent2 : Tables
+lent2 =
+    lend (2 ∷ 2 ∷ 1 ∷ replicate 509 0) (1 ∷ 2 ∷ 1 ∷ replicate 509 0) (99 ∷ 99 ∷ 1 ∷ replicate 509 0) (0 ∷ 0 ∷ 1 ∷ replicate 509 0)
+    (100 ∷ 1 ∷ 50 ∷ replicate 509 0) (1 ∷ 3 ∷ 1 ∷ replicate 509 0) (0 ∷ 1 ∷ replicate 1022 65535) (2 ∷ 0 ∷ []) (0 ∷ 1 ∷ []) (replicate 189 4)
+
+-- CPU 0 is at level 101, bit 37 of word 1, and CPU 1 at level 1
+abbrev pub record2 : Record
+record2 =
+    lentRecord (0 ∷ 2 ∷ replicate 99 0 ++ 1 ∷ []) (0 ∷ 1 ∷ replicate 99 0 ++ 1 ∷ []) (2 ∷ 2 ^ 37 ∷ []) (101 ∷ 1 ∷ replicate 62 255)
+
+-- the record of two CPUs at other levels
+abbrev pub atLevels : ℕ → ℕ → Record
+atLevels a b = recordOf (a ∷ b ∷ replicate 62 255)
+
+-- the check of that machine with other tables
+abbrev pub checking : ℕ → Tables → LentCase
+checking a s = answers a check 2 record2 s
+
+-- it is refused with 2 if one entry of a column is another, or the rows and their counts, or the record
+abbrev pub badEntry : Column → ℕ → ℕ → LentCase
+badEntry k t v = checking 2 (withEntry k t v lent2)
+
+abbrev pub badRows : List ℕ → List ℕ → LentCase
+badRows rs ns = checking 2 (withRows rs ns lent2)
+
+abbrev pub badRecord : Record → LentCase
+badRecord r = answers 2 check 2 r lent2
+
+-- ---- well-formed
+
+-- "W1. State is 0, 1 or 2. A free place holds 0 in all its columns."
+abbrev pub w1 : List LentCase
+w1 =
+    badEntry Column.state 2 3 ∷ badEntry Column.policy 3 1 ∷ badEntry Column.prio 3 1 ∷ badEntry Column.cpu 3 1 ∷ badEntry Column.slice 3 1
+    ∷ badEntry Column.mask 3 1 ∷ []
+
+-- "W2. Otherwise policy 1 or 2, priority 1 to 99, CPU below N, slice 1 to 100, mask not 0 and without bits at N or above."
+abbrev pub w2 : List LentCase
+w2 =
+    badEntry Column.policy 2 0 ∷ badEntry Column.policy 2 3 ∷ badEntry Column.prio 2 0 ∷ badEntry Column.prio 2 100
+    ∷ badEntry Column.cpu 2 2 ∷ badEntry Column.slice 2 0 ∷ badEntry Column.slice 2 101 ∷ badEntry Column.mask 2 0 ∷ badEntry Column.mask 2 5 ∷ []
+
+-- "W3. Row counts are at most 512; places before the count hold numbers below 512, the rest 65535. Flags are 0 or 1."
+abbrev pub w3 : List LentCase
+w3 =
+    badRows (0 ∷ 1 ∷ replicate 1022 65535) (513 ∷ 0 ∷ []) ∷ badRows (0 ∷ 1 ∷ 512 ∷ replicate 1021 65535) (3 ∷ 0 ∷ [])
+    ∷ badRows (0 ∷ 1 ∷ 65534 ∷ replicate 1021 65535) (2 ∷ 0 ∷ []) ∷ badRows (0 ∷ 1 ∷ replicate 1021 65535 ++ 0 ∷ []) (2 ∷ 0 ∷ [])
+    ∷ checking 2 (withFlags (2 ∷ 1 ∷ []) lent2) ∷ []
+
+-- "W4. Each runnable task stands in exactly one place of all rows, in the row of its CPU, and that CPU is allowed. No other task stands in a
+-- row.": task 1 not at all, twice, in two rows, in the row of another CPU; task 0 on a CPU that is not allowed; a sleeper, and a free place
+abbrev pub w4 : List LentCase
+w4 =
+    badRows (0 ∷ replicate 1023 65535) (1 ∷ 0 ∷ []) ∷ badRows (0 ∷ 1 ∷ 1 ∷ replicate 1021 65535) (3 ∷ 0 ∷ [])
+    ∷ answers 2 check 2 (atLevels 101 101) (withRows (0 ∷ 1 ∷ replicate 510 65535 ++ 1 ∷ replicate 511 65535) (2 ∷ 1 ∷ []) lent2)
+    ∷ answers 2 check 2 (atLevels 101 101) (withRows (0 ∷ replicate 511 65535 ++ 1 ∷ replicate 511 65535) (1 ∷ 1 ∷ []) lent2)
+    ∷ badEntry Column.mask 0 2
+    ∷ badRows (0 ∷ 1 ∷ 2 ∷ replicate 1021 65535) (3 ∷ 0 ∷ []) ∷ badRows (0 ∷ 1 ∷ 3 ∷ replicate 1021 65535) (3 ∷ 0 ∷ []) ∷ []
+
+-- "W5. Along a row, priorities never rise."
+abbrev pub w5 : List LentCase
+w5 = answers 2 check 2 (atLevels 100 1) (withEntry Column.prio 0 98 lent2) ∷ []
+
+-- "W6. The record is consistent in itself for N (masks, counts, words and levels say the same; levels of CPUs below N are 0 to 101 but never 2;
+-- word bits 102 to 127 are clear), and each CPU's level is its first task's priority plus 2 or, for an empty row, its flag."; "INVALID is 255,
+-- held by CPU places N and up, in no mask"
+abbrev pub w6 : List LentCase
+w6 =
+    badRecord (lentRecord (0 ∷ 3 ∷ replicate 99 0 ++ 1 ∷ []) (record2 .counts) (record2 .words) (record2 .levels))
+    ∷ badRecord (lentRecord (record2 .masks) (record2 .counts) (2 ∷ (2 ^ 37 + 2 ^ 63) ∷ []) (record2 .levels))
+    ∷ badRecord (lentRecord (0 ∷ 0 ∷ 2 ∷ replicate 98 0 ++ 1 ∷ []) (0 ∷ 0 ∷ 1 ∷ replicate 98 0 ++ 1 ∷ []) (4 ∷ 2 ^ 37 ∷ []) (101 ∷ 2 ∷ replicate 62 255))
+    ∷ badRecord (lentRecord (4 ∷ 2 ∷ replicate 99 0 ++ 1 ∷ []) (1 ∷ 1 ∷ replicate 99 0 ++ 1 ∷ []) (3 ∷ 2 ^ 37 ∷ []) (101 ∷ 1 ∷ 0 ∷ replicate 61 255))
+    ∷ checking 2 (withEntry Column.prio 0 98 (withEntry Column.prio 1 98 lent2)) ∷ checking 2 (withFlags (0 ∷ 0 ∷ []) lent2) ∷ []
+
+-- ---- refusal 1
+
+-- tables of the right lengths for n CPUs, and nothing right in them
+abbrev pub dirty : ℕ → Tables
+dirty n =
+    let column : List ℕ = replicate 512 7 in
+    lend column column column column column column (replicate (512 * n) 3) (replicate n 9) (replicate n 5) (replicate 189 4)
+
+abbrev pub noRecord : Record
+noRecord = lentRecord [] [] [] []
+
+-- "N is 0 or over 64"
+abbrev pub sizes : List LentCase
+sizes =
+    answers 1 make 0 noRecord (dirty 0) ∷ answers 1 make 65 noRecord (dirty 65) ∷ answers 1 (handle (tick 0)) 0 noRecord (dirty 0)
+    ∷ answers 1 (handle (tick 0)) 65 noRecord (dirty 65) ∷ answers 1 check 0 noRecord (dirty 0) ∷ answers 1 check 65 noRecord (dirty 65) ∷ []
+
+-- a column is one entry short
+abbrev pub shortColumn : Column → LentCase
+shortColumn k = checking 1 (inColumn k (λ (xs : List ℕ). tail xs) lent2)
+
+-- "or a lent table has another length than above", before all that is wrong in them; "Making a fresh machine refuses only with 1, and then hands
+-- back the record it was given"
+abbrev pub lengths : List LentCase
+lengths =
+    shortColumn Column.state ∷ shortColumn Column.policy ∷ shortColumn Column.prio ∷ shortColumn Column.cpu ∷ shortColumn Column.slice
+    ∷ shortColumn Column.mask
+    ∷ checking 1 (withRows (0 ∷ 1 ∷ replicate 1021 65535) (2 ∷ 0 ∷ []) lent2) ∷ checking 1 (withRows (0 ∷ 1 ∷ replicate 1022 65535) (2 ∷ []) lent2)
+    ∷ checking 1 (withFlags (0 ∷ 1 ∷ 0 ∷ []) lent2) ∷ checking 1 (withLog (replicate 188 4) lent2) ∷ checking 1 (withLog (replicate 192 4) lent2)
+    ∷ answers 1 make 2 record2 (withLog (replicate 192 4) lent2) ∷ answers 1 (handle (event 0 0 0 0 0)) 2 noRecord (withLog (replicate 190 4) (dirty 2)) ∷ []
+
+-- ---- the entries
+
+-- "A fresh machine has all places free, rows empty, flags 0; every log number is set to 65535."; "Old table contents don't
+-- matter to the fresh maker."
+abbrev pub freshMade : List LentCase
+freshMade =
+    let zeros : List ℕ = replicate 512 0 in
+    record {
+      call = make;
+      n = 2;
+      cpupri = noRecord;
+      tables = dirty 2;
+      expected = result 0 0 (lentRecord (3 ∷ replicate 101 0) (2 ∷ replicate 101 0) (1 ∷ 0 ∷ []) (0 ∷ 0 ∷ replicate 62 255))
+          (lend zeros zeros zeros zeros zeros zeros (replicate 1024 65535) (0 ∷ 0 ∷ []) (0 ∷ 0 ∷ []) (replicate 189 65535));
+    }
+    ∷ []
+
+-- 2, "W1 to W6 fail anywhere", before 3, "kind not 1 to 9"; "A refusal reports 0 moves and changes nothing."
+abbrev pub illFormedFirst : List LentCase
+illFormedFirst = checking 2 (dirty 2) ∷ answers 2 (handle (event 0 0 0 0 0)) 2 record2 (withEntry Column.state 2 3 lent2) ∷ []
+
+-- "Accepted is 0 with the number of moves; log entries from that number on stay as they were.": the machine above passes the check, a tick of its
+-- empty row does nothing, then task 1 migrates to CPU 1
+abbrev pub handledMove : List LentCase
+handledMove =
+    record {
+      call = handle (tick 1);
+      n = 2;
+      cpupri = record2;
+      tables = lent2;
+      expected = result 0 1 (lentRecord (replicate 101 0 ++ 3 ∷ []) (replicate 101 0 ++ 2 ∷ []) (0 ∷ 2 ^ 37 ∷ []) (101 ∷ 101 ∷ replicate 62 255))
+          (lend (lent2 .state) (lent2 .policy) (lent2 .prio) (0 ∷ 1 ∷ 1 ∷ replicate 509 0) (lent2 .slice) (lent2 .mask)
+          (0 ∷ replicate 511 65535 ++ 1 ∷ replicate 511 65535) (1 ∷ 1 ∷ []) (0 ∷ 1 ∷ []) (1 ∷ 0 ∷ 1 ∷ replicate 186 4));
+    }
+    ∷ []
+
+abbrev pub lentCases : List LentCase
+lentCases = w1 ++ w2 ++ w3 ++ w4 ++ w5 ++ w6 ++ sizes ++ lengths ++ freshMade ++ illFormedFirst ++ handledMove
+
+-- ---- the finder
+
+pub record FinderCase : Type 0 where
+  pub n : ℕ
+  pub cpupri : Record
+  pub level : ℕ
+  pub mask : ℕ
+  pub expected : Answer
+
+abbrev pub asked : FinderCase → Answer
+asked k = found (k .n) (k .cpupri) (k .level) (k .mask)
+
+-- asked for a level below l among the CPUs of the mask k, it answers the number a, the level v and the mask u
+abbrev pub finds : ℕ → Record → ℕ → ℕ → ℕ → ℕ → ℕ → FinderCase
+finds n r l k a v u = record { n = n; cpupri = r; level = l; mask = k; expected = record { number = a; level = v; mask = u } }
+
+-- "it answers the lowest level below the asked one that has an allowed CPU, with those CPUs as a mask, or none, exactly if there is no such level";
+-- "None is answer 0 with level 255 and mask 0; a refusing finder gives its number with the same 255 and 0." Refused in order: 1, 2, "finder: the
+-- record is inconsistent in itself"; 7, "finder: level over 101"; 8, "mask 0, or a bit at N or above"
+abbrev pub finderCases : List FinderCase
+finderCases =
+    finds 2 record2 101 3 0 1 2 ∷ finds 2 record2 101 1 0 255 0 ∷ finds 0 noRecord 102 0 1 255 0 ∷ finds 65 noRecord 102 0 1 255 0
+    ∷ finds 2 noRecord 102 0 2 255 0 ∷ finds 2 record2 102 0 7 255 0 ∷ finds 2 record2 101 4 8 255 0 ∷ []
