@@ -17,7 +17,7 @@ use Rattle.bits.proofs.Tests.{and-left, and-right, and-both}
 use Rattle.bits.proofs.Packed.{bit-packed, packed-lt, packed-snoc, weight-packed}
 use Rattle.levels.specs.Level.{levelCount, cpuPlaces, unused, invalid, known}
 use Rattle.levels.specs.Record.{maskAt, countAt, masksOf, countsOf, active, wordsOf, recordOf, Whole}
-use Rattle.consistency.specs.Consistent.{levelFits, fitFrom, levelsFit, same, agrees, consistent, joined, Sized, Consistent}
+use Rattle.consistency.specs.Consistent.{levelFits, fitFrom, levelsFit, same, agrees, consistent, enlisted, Sized, Consistent}
 use Rattle.levels.specs.declared.record.Record.{Record}
 use Rattle.levels.proofs.Table.{table-cong, table-set}
 use Rattle.levels.proofs.Moved.{length-masks, length-counts, mask-at, count-at}
@@ -136,8 +136,8 @@ snoc-kept xs l k d =
     let free : bit (maskAt xs k) (length xs) ≡ false = bit-above (length xs) (maskAt xs k) (length xs) (packed-lt (λ (x : ℕ). eqb x k) xs) (omega arith) in
     packed-snoc (λ (x : ℕ). eqb x k) xs l ∙ put-same (eqb l k) (maskAt xs k) (length xs) (free ∙ sym e)
 
-pub masks-snoc : (xs : List ℕ) (l : ℕ) → masksOf (xs ++ (l ∷ [])) ≡ joined (masksOf xs) (length xs) l
-unfolding masksOf maskAt joined
+pub masks-snoc : (xs : List ℕ) (l : ℕ) → masksOf (xs ++ (l ∷ [])) ≡ enlisted (masksOf xs) (length xs) l
+unfolding masksOf maskAt enlisted
 masks-snoc xs l = go (ltb l levelCount) refl
   where
     go : (b : Bool) → ltb l levelCount ≡ b → masksOf (xs ++ (l ∷ [])) ≡ cond b (set (masksOf xs) l (withBit (getD (masksOf xs) l 0) (length xs))) (masksOf xs)
@@ -150,10 +150,10 @@ masks-snoc xs l = go (ltb l levelCount) refl
         let h : levelCount ≤ l = ltb-false l levelCount e in
         table-cong (maskAt xs) (maskAt (xs ++ (l ∷ []))) levelCount (λ k hk. snoc-kept xs l k (λ e. omega arith))
 
-pub masks-next : (xs : List ℕ) (c : ℕ) → c < length xs → masksOf (take (suc c) xs) ≡ joined (masksOf (take c xs)) c (getD xs c 0)
+pub masks-next : (xs : List ℕ) (c : ℕ) → c < length xs → masksOf (take (suc c) xs) ≡ enlisted (masksOf (take c xs)) c (getD xs c 0)
 masks-next xs c h =
     ap masksOf (take-suc xs c 0 h) ∙ masks-snoc (take c xs) (getD xs c 0)
-    ∙ ap (λ (k : ℕ). joined (masksOf (take c xs)) k (getD xs c 0)) (length-take-le c xs (omega arith))
+    ∙ ap (λ (k : ℕ). enlisted (masksOf (take c xs)) k (getD xs c 0)) (length-take-le c xs (omega arith))
 
 -- ---- the meaning
 

@@ -32,8 +32,8 @@ same (x ∷ xs) [] = false
 same (x ∷ xs) (y ∷ ys) = eqb x y && same xs ys
 
 -- the masks with CPU c in its level's one; a level that has no mask adds nothing
-unfoldable pub joined : List ℕ → ℕ → ℕ → List ℕ
-joined masks c l = cond (ltb l levelCount) (set masks l (withBit (getD masks l 0) c)) masks
+unfoldable pub enlisted : List ℕ → ℕ → ℕ → List ℕ
+enlisted masks c l = cond (ltb l levelCount) (set masks l (withBit (getD masks l 0) c)) masks
 
 -- masks, counts and words are what the levels determine
 unfoldable pub agrees : Record → Bool

@@ -11,7 +11,7 @@ ghost use Rattle.bits.specs.Moments.{old, new};
 ghost use Rattle.levels.specs.Level.{cpuPlaces};
 ghost use Rattle.levels.specs.Record.{lentRecord, masksOf, active};
 ghost use Rattle.levels.specs.Lent.{nowRecord, oldRecord};
-ghost use Rattle.consistency.specs.Consistent.{levelFits, levelsFit, joined, agrees, consistent, Sized};
+ghost use Rattle.consistency.specs.Consistent.{levelFits, levelsFit, enlisted, agrees, consistent, Sized};
 use levels::level::Level;
 use levels::record::CPUS;
 use levels::record::LEVELS;
@@ -71,7 +71,7 @@ fn level_fits(n: usize, cpu: usize, level: u8) -> bool
 // Puts a CPU into the mask of its level; INVALID has none.
 fn join(masks: &mut [u64; LEVELS], cpu: usize, level: u8)
     requires { ⌜ cpu < cpuPlaces ⌝ }
-    ensures { λ u. ⌜ new masks ≡ joined (old masks) cpu level ⌝ }
+    ensures { λ u. ⌜ new masks ≡ enlisted (old masks) cpu level ⌝ }
 {
     let l = level as usize;
     if l < LEVELS {

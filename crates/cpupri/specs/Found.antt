@@ -19,9 +19,9 @@ pub record Check : Type 0 where
   pub number : ℕ
 
 -- the number of the first check that fails; 0 if none does
-unfoldable pub refusal : List Check → ℕ
-refusal [] = 0
-refusal (c ∷ cs) = cond (c .fails) (c .number) (refusal cs)
+unfoldable pub firstFailing : List Check → ℕ
+firstFailing [] = 0
+firstFailing (c ∷ cs) = cond (c .fails) (c .number) (firstFailing cs)
 
 -- 1 to 64 CPUs
 unfoldable pub sizeFits : ℕ → Bool
@@ -77,4 +77,4 @@ unless zero a = a
 unless (suc k) a = without (suc k)
 
 unfoldable pub found : ℕ → Record → ℕ → ℕ → Answer
-found n r level mask = unless (refusal (findChecks n r level mask)) (answerOf (lowestFound (r .masks) level mask))
+found n r level mask = unless (firstFailing (findChecks n r level mask)) (answerOf (lowestFound (r .masks) level mask))

@@ -2,7 +2,7 @@
 -- Assumes nothing.
 use mathlib.Core.Path.{_≡_, sym, ap, _∙_, subst}
 use mathlib.Core.Logic.{_≢_, _⊎_, inl, inr}
-use mathlib.Core.List.{List}
+use mathlib.Core.List.{List, [], _∷_}
 use mathlib.Core.Option.{Option, none, some}
 use Prim.Native.Nat.{ℕ, suc, _<_}
 use native.Mathlib.Nat.{suc-ne-zero}
@@ -10,7 +10,7 @@ use native.Mathlib.Omega.{arith}
 use lib.ListN.{length}
 use Rattle.rules.specs.Machine.{Machine, taskOf, row, taskPlaces}
 use Rattle.rules.specs.Events.{Event, Kind, kindOf, byKind, effectOf}
-use Rattle.rules.specs.Refusals.{firstFailing, checks, unknownKind}
+use Rattle.rules.specs.Refusals.{firstFailing, noKind, checks, unknownKind}
 use Rattle.rules.proofs.Lists.{same?}
 use Rattle.rules.proofs.Checks.{no-kind}
 use Rattle.kinds.specs.Decided.{asTask, firstOf, Named, Runs, Decided, DecidedAs}
@@ -25,12 +25,12 @@ module _ (m : Machine) (e : Event) where
   pub by-kind : (k : Kind) (d : Decision) → kindOf (e .kind) ≡ some k → DecidedAs k m e d → Decides m e d
   unfolding Decides
   by-kind k d named h =
-      subst (λ (o : Option Kind). Decided (byKind unknownKind (λ (j : Kind). firstFailing (checks m e j)) o) (byKind m (λ (j : Kind). effectOf j e m) o) m d)
+      subst (λ (o : Option Kind). Decided (firstFailing (byKind (noKind ∷ []) (checks m e) o)) (byKind m (λ (j : Kind). effectOf j e m) o) m d)
       (sym named) h
 
   pub unknown : kindOf (e .kind) ≡ none → Decides m e (Refused unknownKind)
-  unfolding Decides
-  unknown named = (sym (ap (byKind unknownKind (λ (j : Kind). firstFailing (checks m e j))) named), suc-ne-zero 2)
+  unfolding Decides firstFailing
+  unknown named = (sym (ap (λ (o : Option Kind). firstFailing (byKind (noKind ∷ []) (checks m e) o)) named), suc-ne-zero 2)
 
 further : (k j : ℕ) → j < k → k ≢ suc j → suc j < k
 further k j h n = omega arith

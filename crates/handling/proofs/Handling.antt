@@ -11,16 +11,16 @@ use Rattle.rules.specs.Machine.{Machine, taskPlaces, cpuPlaces}
 use Rattle.rules.specs.WellFormed.{WellFormed}
 use Rattle.rules.specs.Events.{Event, effect}
 use Rattle.rules.specs.Refusals.{refusal}
-use Rattle.rules.specs.Migration.{Move, Settled, settled, migrate}
+use Rattle.rules.specs.Migration.{Move, Settled, settleAll, migrate}
 use Rattle.rules.specs.Outcome.{Outcome, logged}
 use Rattle.rules.specs.Tables.{Tables, machineOf, tablesOf, flatOf, rowsOf, rowCounts, logPlaces}
-use Rattle.rules.specs.Entry.{result, Good, Result, kept, written, checked, eventAnswer, orElse, handled}
+use Rattle.rules.specs.Entry.{result, Good, Result, kept, written, checked, eventAnswer, handled}
 use Rattle.rules.specs.LentDemand3.{LentDemand3}
 use Rattle.rules.proofs.Checks.{outcome-accepted}
 use Rattle.rules.proofs.Effects.{keep-effect}
 use Rattle.rules.proofs.Runs.{settle-run, run-keeps, run-few}
 use Rattle.rules.proofs.Tables.{write-read, stored-test}
-use Rattle.rules.proofs.Entry.{checked-good, good-checked, handled-answer, handled-refused, handled-accepted, handled-good, start-n}
+use Rattle.rules.proofs.Entry.{checked-good, good-checked, answer-checked, answer-event, handled-answer, handled-refused, handled-accepted, handled-good, start-n}
 use Rattle.rules.proofs.LentDemand3.{handled-lent}
 use Rattle.checker.specs.Lent.{lent}
 use Rattle.kinds.specs.Decided.{did}
@@ -123,14 +123,13 @@ module _ {n : ℕ} {r : Record} {s : Tables} (h : Passed n r s) where
 
     -- refused: nothing was written
     pub refused-result : {a : ℕ} → d ≡ Refused a → (result a 0 r s ≡ handled n r s e) × (checked n r s ≡ 0)
-    unfolding eventAnswer
     refused-result {a} is = (go a refl (refused before e a (subst (Decides before e) is right)), h .checks)
       where
         go : (b : ℕ) → a ≡ b → (a ≡ refusal before e) × (a ≡ 0 → ⊥) → result a 0 r s ≡ handled n r s e
         go zero x f = absurd (f .1 x)
         go (suc b) x f =
             ap (λ (k : ℕ). kept k r s) x
-            ∙ sym (handled-refused n r s e b (ap (λ (k : ℕ). orElse k (refusal before e)) (h .checks) ∙ sym (f .0) ∙ x))
+            ∙ sym (handled-refused n r s e b (answer-event n r s e (h .checks) ∙ sym (f .0) ∙ x))
 
 -- ---- the event was accepted and its own effect left the tables t and the record q
 
@@ -157,8 +156,7 @@ module _ {n : ℕ} {r : Record} {s : Tables} {e : Event} {t : Tables} {q : Recor
   start = effect e (machineOf n s)
 
   accepted-is : eventAnswer n r s e ≡ 0
-  unfolding eventAnswer
-  accepted-is = ap (λ (x : ℕ). orElse x (refusal (machineOf n s) e)) (h .passed .checks) ∙ h .takes
+  accepted-is = answer-event n r s e (h .passed .checks) ∙ h .takes
 
   well : WellFormed start
   well = keep-effect (machineOf n s) e (good (h .passed) .machine) (h .takes)
@@ -202,9 +200,9 @@ module _ {n : ℕ} {r : Record} {s : Tables} {e : Event} {t : Tables} {q : Recor
 
   -- ---- after the steps
 
-  module _ {cs ks flat lg : List ℕ} {k : ℕ} {p : Record} (ended : Ended (settled (effect e (machineOf n s))) (t .prio) cs ks flat (t .log) lg k p) where
+  module _ {cs ks flat lg : List ℕ} {k : ℕ} {p : Record} (ended : Ended (settleAll (effect e (machineOf n s))) (t .prio) cs ks flat (t .log) lg k p) where
     abbrev steps : Settled
-    steps = settled start
+    steps = settleAll start
 
     abbrev after : Tables
     after = lent (t .state) (t .policy) (t .prio) cs (t .slice) (t .mask) flat ks (t .flags) lg
@@ -255,13 +253,12 @@ module _ {n : ℕ} {r : Record} {s : Tables} {e : Event} {t : Tables} {q : Recor
 -- ---- refused by the check
 
 pub unchecked-result : (n : ℕ) (r : Record) (s : Tables) (e : Event) (a : ℕ) → a ≡ checked n r s → (a ≡ 0 → ⊥) → result a 0 r s ≡ handled n r s e
-unfolding eventAnswer
 unchecked-result n r s e a h z = go a refl
   where
     go : (b : ℕ) → a ≡ b → result a 0 r s ≡ handled n r s e
     go zero x = absurd (z x)
     go (suc b) x =
-        ap (λ (k : ℕ). kept k r s) x ∙ sym (handled-refused n r s e b (ap (λ (k : ℕ). orElse k (refusal (machineOf n s) e)) (sym h ∙ x)))
+        ap (λ (k : ℕ). kept k r s) x ∙ sym (handled-refused n r s e b (answer-checked n r s e b (sym h ∙ x)))
 
 -- ---- demand 3 of what is handed back
 

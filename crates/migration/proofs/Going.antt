@@ -12,7 +12,7 @@ use Rattle.cpupri.specs.Found.{lowestLevel, allowedAt}
 use Rattle.cpupri.specs.Record.{recordOf, masksOf}
 use Rattle.levels.specs.declared.record.Record.{Record}
 use Rattle.rules.specs.Machine.{Machine, taskOf, prioOf, levels, enqueue, dequeue, taskPlaces}
-use Rattle.rules.specs.Migration.{Move, Settled, next, settled}
+use Rattle.rules.specs.Migration.{Move, Settled, next, settleAll}
 use Rattle.rules.specs.Outcome.{logNumbers, logged}
 use Rattle.rules.specs.Tables.{flatOf, logPlaces}
 use Rattle.rules.specs.WellFormed.{WellFormed}
@@ -67,7 +67,7 @@ module _ {m : Machine} (w : WellFormed m) {ps cs ms ks flat old log : List ℕ} 
   looking = record { well = here; prio = g .held .prio; mask = g .masks; counts = g .held .counts; rows = g .held .rows; levels = record-masks }
 
   -- nothing is movable: the steps have ended
-  pub going-end : (b : Mover) → BestOf e (e .n) b → b .priority ≡ 0 → Ended (settled m) ps cs ks flat old log k r
+  pub going-end : (b : Mover) → BestOf e (e .n) b → b .priority ≡ 0 → Ended (settleAll m) ps cs ks flat old log k r
   going-end b best z =
       subst (λ (s : Settled). Ended s ps cs ks flat old log k r) (sym (taken-all w (g .taken) (none-next e here (best .none z))))
       (record { held = g .held; cpus = g .cpus; moves = g .moves; logs = g .logs })

@@ -8,7 +8,7 @@ use native.Mathlib.Nat.{zero-add}
 use native.Mathlib.Omega.{arith}
 use lib.ListN.{length, length-append}
 use Rattle.rules.specs.Machine.{Machine}
-use Rattle.rules.specs.Migration.{Move, Settled, onward, next, migrate, settle, settled}
+use Rattle.rules.specs.Migration.{Move, Settled, onward, next, migrate, settle, settleAll}
 use Rattle.rules.specs.WellFormed.{WellFormed}
 use Rattle.rules.proofs.Runs.{Run, out, step, run-well-formed, run-few}
 
@@ -71,7 +71,7 @@ taken-settle {m} (onto {l = l} {e = e} {v = v} t h) k =
     count l v k = omega (arith, size-snoc l v)
 
 -- where none applies they are all
-pub taken-all : {m : Machine} {l : List Move} {e : Machine} → WellFormed m → Taken m l e → next e ≡ none → settled m ≡ record { log = l; machine = e }
+pub taken-all : {m : Machine} {l : List Move} {e : Machine} → WellFormed m → Taken m l e → next e ≡ none → settleAll m ≡ record { log = l; machine = e }
 taken-all {m} {l} {e} w t h =
     let few : length l < m .n = taken-few w t in
     let count : m .n ≡ length l + suc (m .n - suc (length l)) = omega arith in

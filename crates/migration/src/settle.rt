@@ -8,7 +8,7 @@ ghost use Rattle.levels.specs.Lent.{nowRecord, oldRecord, newRecord};
 ghost use Rattle.cpupri.specs.Level.{levelOf};
 ghost use Rattle.cpupri.specs.Found.{lowestLevel, allowedAt};
 ghost use Rattle.rules.specs.Machine.{Machine, taskPlaces, highestPriority, enqueue, dequeue};
-ghost use Rattle.rules.specs.Migration.{settled};
+ghost use Rattle.rules.specs.Migration.{settleAll};
 ghost use Rattle.rules.specs.Tables.{logPlaces};
 ghost use Rattle.placement.specs.Held.{Held};
 ghost use Rattle.migration.specs.Settling.{Settling, Stepping, Ended};
@@ -39,7 +39,7 @@ pub fn settle(
     ensures { λ k. let r = oldRecord masks tallies words levels in
         let s = newRecord masks tallies words levels in
         ⌜ ((m : Machine) → Settling m (old prio) (old cpu) (old mask) (old counts) (old rows) r → n ≡ m .n
-        → Ended (settled m) (old prio) (new cpu) (new counts) (new rows) (old log) (new log) k s) ⌝ }
+        → Ended (settleAll m) (old prio) (new cpu) (new counts) (new rows) (old log) (new log) k s) ⌝ }
 {
     let mut moves = 0;
     loop {

@@ -15,7 +15,7 @@ use Rattle.rules.specs.Machine.{Machine}
 use Rattle.rules.specs.Events.{Event, Kind, kinds, kindOf, byKind, effect, effectOf}
 use Rattle.rules.specs.Events.{add, remove, wake, sleep, set-priority, set-affinity, tick, yield, set-ordinary}
 use Rattle.cpupri.specs.Found.{maskFits}
-use Rattle.rules.specs.Refusals.{Check, firstFailing, Passes, checks, refusal, unknownKind}
+use Rattle.rules.specs.Refusals.{Check, firstFailing, Passes, noKind, checks, refusal}
 use Rattle.rules.specs.Outcome.{outcome, answered, accepted, refused}
 use Rattle.bits.proofs.Tests.{and-both}
 use Rattle.rules.proofs.Bools.{both}
@@ -60,15 +60,16 @@ pub record Accepted (m : Machine) (e : Event) : Type 0 where
   pub checked : Passes (checks m e kind)
 
 pub accepted-checks : (m : Machine) (e : Event) → refusal m e ≡ 0 → Accepted m e
+unfolding firstFailing
 accepted-checks m e h = go (kindOf (e .kind)) refl h
   where
-    go : (o : Option Kind) → kindOf (e .kind) ≡ o → byKind unknownKind (λ k. firstFailing (checks m e k)) o ≡ 0 → Accepted m e
+    go : (o : Option Kind) → kindOf (e .kind) ≡ o → firstFailing (byKind (noKind ∷ []) (checks m e) o) ≡ 0 → Accepted m e
     go none n h = absurd (omega arith)
     go (some k) n h = record { kind = k; named = n; checked = passes (checks m e k) (positive m e k) h }
 
 pub checks-accepted : (m : Machine) (e : Event) → Accepted m e → refusal m e ≡ 0
 checks-accepted m e a =
-    ap (byKind unknownKind (λ k. firstFailing (checks m e k))) (a .named) ∙ passed (checks m e (a .kind)) (a .checked)
+    ap (λ (o : Option Kind). firstFailing (byKind (noKind ∷ []) (checks m e) o)) (a .named) ∙ passed (checks m e (a .kind)) (a .checked)
 
 pub effect-is : (m : Machine) (e : Event) (a : Accepted m e) → effect e m ≡ effectOf (a .kind) e m
 effect-is m e a = ap (byKind m (λ k. effectOf k e m)) (a .named)

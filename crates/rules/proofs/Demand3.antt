@@ -15,7 +15,7 @@ use Rattle.rules.specs.Machine.{Machine, taskOf, prioOf, row, level, lev
 use Rattle.rules.specs.WellFormed.{WellFormed}
 use Rattle.rules.specs.Events.{Event, effect}
 use Rattle.rules.specs.Refusals.{refusal}
-use Rattle.rules.specs.Migration.{Move, waiting, next, settled}
+use Rattle.rules.specs.Migration.{Move, waiting, next, settleAll}
 use Rattle.rules.specs.Outcome.{Outcome, outcome, answered}
 use Rattle.rules.specs.Cases.{played}
 use Rattle.rules.specs.Demand3.{Demand3, Steps, none-left, Outdone}
@@ -52,22 +52,22 @@ stands-once m w t s = (
 )
 
 -- the steps from any well-formed machine
-pub settled-well-formed : (m : Machine) → WellFormed m → WellFormed (settled m .machine)
+pub settled-well-formed : (m : Machine) → WellFormed m → WellFormed (settleAll m .machine)
 settled-well-formed m w = run-well-formed w (settle-run (m .n) m)
 
-pub settled-demand : (m : Machine) → WellFormed m → Demand3 m (length (settled m .log)) (settled m .log) (settled m .machine)
+pub settled-demand : (m : Machine) → WellFormed m → Demand3 m (length (settleAll m .log)) (settleAll m .log) (settleAll m .machine)
 settled-demand m w =
     let r = settle-run (m .n) m in
-    let e : WellFormed (settled m .machine) = settled-well-formed m w in
-    let ends : next (settled m .machine) ≡ none = settle-ends (m .n) m w (omega arith) in
+    let e : WellFormed (settleAll m .machine) = settled-well-formed m w in
+    let ends : next (settleAll m .machine) ≡ none = settle-ends (m .n) m w (omega arith) in
     record {
       few = omega (arith, run-few w r);
       no-cpu-twice = run-receivers w r;
       no-task-twice = run-movers w r;
       falling = run-falling w r;
       counted = (refl, run-steps r ends);
-      settled = nothing-movable (settled m .machine) e ends;
-      stands = stands-once (settled m .machine) e;
+      closing = nothing-movable (settleAll m .machine) e ends;
+      stands = stands-once (settleAll m .machine) e;
     }
 
 -- an accepted event: its own effect, then the steps

@@ -17,11 +17,11 @@ use Rattle.rules.specs.Machine.{allows, lowestAllowed, store, enqueue, d
 use Rattle.rules.specs.WellFormed.{Shape, WellFormed, wellFormed}
 use Rattle.rules.specs.Events.{Event, Kind, effect, effectOf, tickedTask, toFirst}
 use Rattle.rules.specs.Events.{add, remove, wake, sleep, set-priority, set-affinity, tick, yield, set-ordinary}
-use Rattle.rules.specs.Refusals.{Passes, refusal, firstFailing, badSize}
+use Rattle.rules.specs.Refusals.{Passes, refusal, firstFailing, badSize, illFormed}
 use Rattle.rules.specs.Outcome.{Outcome, outcome, logged}
 use Rattle.rules.specs.Demand3.{Demand3}
 use Rattle.rules.specs.Tables.{Tables, machineOf, tablesOf, lengthsFit, tablesFit, recordFits, flatOf, rowCounts, storedRows, nothing, logPlaces}
-use Rattle.rules.specs.Entry.{Good, Result, kept, written, sizeCheck, formCheck, checked, orElse, eventAnswer, made, madeBy, handled, handledBy}
+use Rattle.rules.specs.Entry.{Good, Result, kept, written, sizeCheck, formCheck, checked, eventAnswer, made, madeBy, handled, handledBy}
 use Rattle.rules.proofs.Bools.{both}
 use Rattle.rules.proofs.Apart.{in-row, runnable-place}
 use Rattle.rules.proofs.Checks.{Accepted, accepted-checks, effect-is, outcome-accepted, outcome-moves, passes, passed}
@@ -228,14 +228,34 @@ outcome-n m e h =
     ∙ run-n (settle-run (effect e m .n) (effect e m))
     ∙ ap (λ (x : Machine). x .n) (effect-is m e a) ∙ effect-n (a .kind) e m
 
--- an event is accepted exactly if the check passes and no refusal from 3 on applies
-pub answer-zero : (n : ℕ) (r : Record) (s : Tables) (e : Event) → eventAnswer n r s e ≡ 0 → (checked n r s ≡ 0) × (refusal (machineOf n s) e ≡ 0)
-unfolding eventAnswer
-answer-zero n r s e h = go (checked n r s) refl h
-  where
-    go : (a : ℕ) → checked n r s ≡ a → orElse a (refusal (machineOf n s) e) ≡ 0 → (checked n r s ≡ 0) × (refusal (machineOf n s) e ≡ 0)
-    go zero p h = (p, h)
-    go (suc a) p h = absurd (omega arith)
+-- the answer to an event is the check's; where that is 0, it is the event's own
+module _ (n : ℕ) (r : Record) (s : Tables) (e : Event) where
+  pub answer-checked : (a : ℕ) → checked n r s ≡ suc a → eventAnswer n r s e ≡ suc a
+  unfolding eventAnswer checked firstFailing
+  answer-checked a h = go (sizeCheck n s .fails) (formCheck n r s .fails) h
+    where
+      go : (x y : Bool) → cond x badSize (cond y illFormed 0) ≡ suc a → cond x badSize (cond y illFormed (refusal (machineOf n s) e)) ≡ suc a
+      go true y h = h
+      go false true h = h
+      go false false h = absurd (omega arith)
+
+  pub answer-event : checked n r s ≡ 0 → eventAnswer n r s e ≡ refusal (machineOf n s) e
+  unfolding eventAnswer checked firstFailing
+  answer-event h = go (sizeCheck n s .fails) (formCheck n r s .fails) h
+    where
+      go : (x y : Bool) → cond x badSize (cond y illFormed 0) ≡ 0
+          → cond x badSize (cond y illFormed (refusal (machineOf n s) e)) ≡ refusal (machineOf n s) e
+      go true y h = absurd (omega arith)
+      go false true h = absurd (omega arith)
+      go false false h = refl
+
+  -- an event is accepted exactly if the check passes and no refusal from 3 on applies
+  pub answer-zero : eventAnswer n r s e ≡ 0 → (checked n r s ≡ 0) × (refusal (machineOf n s) e ≡ 0)
+  answer-zero h = go (checked n r s) refl
+    where
+      go : (a : ℕ) → checked n r s ≡ a → (checked n r s ≡ 0) × (refusal (machineOf n s) e ≡ 0)
+      go zero p = (p, sym (answer-event p) ∙ h)
+      go (suc a) p = absurd (let q : eventAnswer n r s e ≡ suc a = answer-checked a p in omega arith)
 
 -- the answer is the first refusal that applies
 pub handled-answer : (n : ℕ) (r : Record) (s : Tables) (e : Event) → handled n r s e .answer ≡ eventAnswer n r s e

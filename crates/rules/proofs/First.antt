@@ -14,9 +14,9 @@ use Rattle.cpupri.specs.declared.find.Found.the-variants.{Cpus, Nothing}
 use Rattle.rules.specs.Machine.{Machine}
 use Rattle.rules.specs.Events.{Event, Kind, kindOf, byKind}
 use Rattle.rules.specs.Events.{add, remove, wake, sleep, set-priority, set-affinity, tick, yield, set-ordinary}
-use Rattle.rules.specs.Refusals.{Check, firstFailing, Applies, First, checks, noKind, refusal, unknownKind}
+use Rattle.rules.specs.Refusals.{Check, firstFailing, Applies, First, checks, noKind}
 use Rattle.rules.specs.Tables.{Tables, machineOf}
-use Rattle.rules.specs.Entry.{sizeCheck, formCheck, checked, orElse, eventAnswer, allChecks}
+use Rattle.rules.specs.Entry.{sizeCheck, formCheck, eventAnswer, allChecks}
 
 -- ---- a list of checks whose numbers rise
 
@@ -80,36 +80,24 @@ rising n r s m e (some tick) = omega arith
 rising n r s m e (some yield) = omega arith
 rising n r s m e (some set-ordinary) = omega arith
 
-refusal-listed : (m : Machine) (e : Event) (o : Option Kind)
-    → byKind unknownKind (λ k. firstFailing (checks m e k)) o ≡ firstFailing (byKind (noKind ∷ []) (checks m e) o)
-unfolding firstFailing
-refusal-listed m e none = refl
-refusal-listed m e (some k) = refl
-
 module _ (n : ℕ) (r : Record) (s : Tables) (e : Event) where
-  answer-listed : eventAnswer n r s e ≡ firstFailing (allChecks n r s e)
-  unfolding eventAnswer checked firstFailing
-  answer-listed = go (sizeCheck n s .fails) (formCheck n r s .fails)
-    where
-      go : (a b : Bool) → orElse (cond a 1 (cond b 2 0)) (refusal (machineOf n s) e) ≡ cond a 1 (cond b 2 (firstFailing (byKind (noKind ∷ []) (checks (machineOf n s) e) (kindOf (e .kind)))))
-      go true b = refl
-      go false true = refl
-      go false false = refusal-listed (machineOf n s) e (kindOf (e .kind))
-
   up : Rising 1 (allChecks n r s e)
   up = rising n r s (machineOf n s) e (kindOf (e .kind))
 
   -- refused with k: k is the first number that applies
   pub refused-first : (k : ℕ) → 0 < k → eventAnswer n r s e ≡ k → First k (allChecks n r s e)
-  refused-first k p h = failing-first 1 (allChecks n r s e) up k p (sym answer-listed ∙ h)
+  unfolding eventAnswer
+  refused-first k p h = failing-first 1 (allChecks n r s e) up k p h
 
   -- and never otherwise
   pub first-refused : (k : ℕ) → First k (allChecks n r s e) → eventAnswer n r s e ≡ k
-  first-refused k f = answer-listed ∙ first-failing 1 (allChecks n r s e) up k f
+  unfolding eventAnswer
+  first-refused k f = first-failing 1 (allChecks n r s e) up k f
 
   -- accepted exactly if no number applies
   pub accepted-none : eventAnswer n r s e ≡ 0 → (j : ℕ) → Applies j (allChecks n r s e) → ⊥
-  accepted-none h = none-applies 1 (allChecks n r s e) (omega arith) up (sym answer-listed ∙ h)
+  unfolding eventAnswer
+  accepted-none h = none-applies 1 (allChecks n r s e) (omega arith) up h
 
   pub none-accepted : ((j : ℕ) → Applies j (allChecks n r s e) → ⊥) → eventAnswer n r s e ≡ 0
   none-accepted free = go (eventAnswer n r s e) refl

@@ -170,7 +170,7 @@ module _ (n : ℕ) (r : Record) (s : Tables) (e : Event) (h : eventAnswer n r s 
             subst (λ (t : ℕ). getD (start .prio) (moverAt (result .tables) j) 0 ≤ getD (start .prio) t 0) (sym (mover i (omega arith)))
             (subst (λ (t : ℕ). getD (start .prio) t 0 ≤ getD (start .prio) (getD (movers log) i 0) 0) (sym (mover j k)) low);
         counted = (log, demand .counted .1, count, entries-are log (s .log) (result .tables) (handled-log n r s e h));
-        settled = λ c p d l z k m a. settled c p d l z k m a;
+        closing = λ c p d l z k m a. closing c p d l z k m a;
         stands = stands-at n (result .cpupri) (result .tables) good;
       }
     where
@@ -198,12 +198,12 @@ module _ (n : ℕ) (r : Record) (s : Tables) (e : Event) (h : eventAnswer n r s 
       receivers-long : (j : ℕ) → j < result .moves → j < length (receivers log)
       receivers-long j k = subst (λ (m : ℕ). j < m) (count ∙ sym (length-map log (λ (v : Move). v .target))) k
 
-      settled : (c p d : ℕ) → c < n → 0 < p → p < getD (result .tables .counts) c 0 → d < n
+      closing : (c p d : ℕ) → c < n → 0 < p → p < getD (result .tables .counts) c 0 → d < n
           → bit (getD (result .tables .mask) (taskAt (result .tables) c p) 0) d ≡ true
           → Busy (result .tables) d
           × (getD (result .tables .prio) (taskAt (result .tables) c p) 0 ≤ getD (result .tables .prio) (taskAt (result .tables) d 0) 0)
-      settled c p d l z k m a =
+      closing c p d l z k m a =
           let o : Outdone (machineOf n (result .tables)) (taskAt (result .tables) c p) d =
-          demand .settled (taskAt (result .tables) c p) d (waits-at n (result .cpupri) (result .tables) good c p l z k) m a in
+          demand .closing (taskAt (result .tables) c p) d (waits-at n (result .cpupri) (result .tables) good c p l z k) m a in
           let u : Busy (result .tables) d × (taskAt (result .tables) d 0 ≡ o .0) = runs-at n (result .cpupri) (result .tables) good d (o .0) (o .1) in
           (u .0, subst (λ (t : ℕ). getD (result .tables .prio) (taskAt (result .tables) c p) 0 ≤ getD (result .tables .prio) t 0) (sym (u .1)) (o .2))

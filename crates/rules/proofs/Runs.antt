@@ -11,7 +11,7 @@ use lib.ListN.{length, getD, length-map}
 use Rattle.rules.specs.Lists.{occ, In, Falling}
 use Rattle.rules.specs.Machine.{Machine, taskOf, prioOf, row, head, running, level, levelOf}
 use Rattle.rules.specs.WellFormed.{WellFormed}
-use Rattle.rules.specs.Migration.{Move, Chosen, Settled, onward, next, migrate, settle, settled}
+use Rattle.rules.specs.Migration.{Move, Chosen, Settled, onward, next, migrate, settle, settleAll}
 use Rattle.rules.specs.Demand3.{movers, receivers}
 use Rattle.rules.proofs.Lists.{same?, digit-same, digit-other, occ-cons, occ-nil, in-here, in-cons, not-in-nil, in-tails, pigeonhole}
 use Rattle.rules.proofs.Apart.{in-row, once}
@@ -283,7 +283,7 @@ settle-any k m w h = settle-more (m .n) k m (settle-ends (m .n) m w (omega arith
 
 -- ---- all steps, one by one
 
-pub settled-stop : (m : Machine) → next m ≡ none → settled m ≡ record { log = []; machine = m }
+pub settled-stop : (m : Machine) → next m ≡ none → settleAll m ≡ record { log = []; machine = m }
 unfolding settle
 settled-stop m e = go (m .n)
   where
@@ -292,6 +292,6 @@ settled-stop m e = go (m .n)
     go (suc k) = ap (onward m (λ v. settle k (migrate v m))) e
 
 pub settled-step : (m : Machine) (v : Move) → WellFormed m → next m ≡ some v
-    → settled m ≡ record { log = v ∷ settled (migrate v m) .log; machine = settled (migrate v m) .machine }
+    → settleAll m ≡ record { log = v ∷ settleAll (migrate v m) .log; machine = settleAll (migrate v m) .machine }
 unfolding settle
 settled-step m v w e = sym (settle-any (suc (m .n)) m w (omega arith)) ∙ ap (onward m (λ v. settle (m .n) (migrate v m))) e

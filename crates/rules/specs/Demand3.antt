@@ -44,6 +44,6 @@ pub record Demand3 (start : Machine) (count : ℕ) (log : List Move) (end : Mach
   -- the count is the number of log entries, and they are the steps, in order
   pub counted : (count ≡ length log) × Steps start log end
   -- afterwards no waiting task outranks what runs on any CPU it is allowed
-  pub settled : (t c : ℕ) → In t (waiting end) → c < end .n → allowed end t c ≡ true → Outdone end t c
+  pub closing : (t c : ℕ) → In t (waiting end) → c < end .n → allowed end t c ≡ true → Outdone end t c
   -- every runnable task stands in exactly one row, once
   pub stands : (t : ℕ) → taskOf end t .state ≡ runnable → (c : ℕ) × (c < end .n) × (occ t (row end c) ≡ 1) × ((d : ℕ) → d ≢ c → occ t (row end d) ≡ 0)

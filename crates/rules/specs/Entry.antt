@@ -11,7 +11,7 @@ use Rattle.levels.specs.declared.record.Record.{Record}
 use Rattle.rules.specs.Machine.{Machine, fresh, levels, taskPlaces}
 use Rattle.rules.specs.WellFormed.{WellFormed}
 use Rattle.rules.specs.Events.{Event}
-use Rattle.rules.specs.Refusals.{Check, firstFailing, eventChecks, refusal, badSize, illFormed}
+use Rattle.rules.specs.Refusals.{Check, firstFailing, eventChecks, badSize, illFormed}
 use Rattle.rules.specs.Outcome.{Outcome, outcome, logged}
 use Rattle.rules.specs.Tables.{Tables, machineOf, tablesOf, lengthsFit, tablesFit, Stored, nothing, logPlaces}
 
@@ -54,18 +54,13 @@ pub record Good (n : ℕ) (r : Record) (s : Tables) : Type 0 where
 unfoldable pub checked : ℕ → Record → Tables → ℕ
 checked n r s = firstFailing (sizeCheck n s ∷ formCheck n r s ∷ [])
 
--- the first refusal, if there is one, else the next
-abbrev pub orElse : ℕ → ℕ → ℕ
-orElse zero b = b
-orElse (suc a) b = suc a
-
--- the answer to an event: 1, 2, then 3 to 9
-unfoldable pub eventAnswer : ℕ → Record → Tables → Event → ℕ
-eventAnswer n r s e = orElse (checked n r s) (refusal (machineOf n s) e)
-
--- all checks of an event: 1, 2, then 3 to 9; the answer is the first number that applies
+-- all checks of an event: 1, 2, then 3 to 9
 abbrev pub allChecks : ℕ → Record → Tables → Event → List Check
 allChecks n r s e = sizeCheck n s ∷ formCheck n r s ∷ eventChecks (machineOf n s) e
+
+-- the answer to an event is the first that fails
+unfoldable pub eventAnswer : ℕ → Record → Tables → Event → ℕ
+eventAnswer n r s e = firstFailing (allChecks n r s e)
 
 -- ---- make a fresh machine: refuses only with 1, and old contents do not matter
 

@@ -50,7 +50,7 @@ pub record LentDemand3 (n moves : ℕ) (start : Machine) (s : Tables) : Type 0 w
   -- the count is the number of steps and of log entries, in order
   pub counted : (vs : List Move) × Steps start vs (machineOf n s) × (moves ≡ length vs) × Entries s vs
   -- afterwards no waiting task outranks what runs on any CPU d it is allowed, and something runs there
-  pub settled : (c p d : ℕ) → c < n → 0 < p → p < getD (s .counts) c 0 → d < n → bit (getD (s .mask) (taskAt s c p) 0) d ≡ true
+  pub closing : (c p d : ℕ) → c < n → 0 < p → p < getD (s .counts) c 0 → d < n → bit (getD (s .mask) (taskAt s c p) 0) d ≡ true
       → Busy s d × (getD (s .prio) (taskAt s c p) 0 ≤ getD (s .prio) (taskAt s d 0) 0)
   -- every runnable task stands in exactly one row, once: at one place, and at no other
   pub stands : (t : ℕ) → getD (s .state) t 0 ≡ runnable

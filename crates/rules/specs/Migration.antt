@@ -114,5 +114,5 @@ settle zero m = record { log = []; machine = m }
 settle (suc k) m = onward m (λ v. settle k (migrate v m)) (next m)
 
 -- until none applies: N is a bound that is never reached
-abbrev pub settled : Machine → Settled
-settled m = settle (m .n) m
+abbrev pub settleAll : Machine → Settled
+settleAll m = settle (m .n) m

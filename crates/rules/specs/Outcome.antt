@@ -6,7 +6,7 @@ use lib.ListN.{length, drop}
 use Rattle.rules.specs.Machine.{Machine}
 use Rattle.rules.specs.Events.{Event, effect}
 use Rattle.rules.specs.Refusals.{refusal}
-use Rattle.rules.specs.Migration.{Move, Settled, settled}
+use Rattle.rules.specs.Migration.{Move, Settled, settleAll}
 
 pub record Outcome : Type 0 where
   pub answer : ℕ
@@ -24,7 +24,7 @@ concluded s = record { answer = 0; moves = length (s .log); machine = s .machine
 
 -- an accepted event: its own effect, then the steps
 abbrev pub accepted : Event → Machine → Outcome
-accepted e m = concluded (settled (effect e m))
+accepted e m = concluded (settleAll (effect e m))
 
 abbrev pub answered : ℕ → Event → Machine → Outcome
 answered zero e m = accepted e m

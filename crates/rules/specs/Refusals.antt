@@ -8,7 +8,7 @@ use mathlib.Core.Logic.{_⊎_}
 use Prim.Native.Nat.{ℕ, _≤_}
 use lib.Dec.{eqb, leb}
 pub use Rattle.cpupri.specs.Found.{Check}
-unfoldable pub use Rattle.cpupri.specs.Found.{refusal as firstFailing}
+unfoldable pub use Rattle.cpupri.specs.Found.{firstFailing}
 use Rattle.cpupri.specs.Found.{maskFits}
 use Rattle.rules.specs.Machine.{Machine, taskOf, row, free, asleep, runnable, fifo, rr, taskPlaces, lowestPriority, highestPriority}
 use Rattle.rules.specs.Events.{Event, Kind, kindOf, byKind}
@@ -112,6 +112,6 @@ module _ (m : Machine) (e : Event) where
   abbrev pub eventChecks : List Check
   eventChecks = byKind (noKind ∷ []) checks (kindOf (e .kind))
 
--- the answer, of a well-formed machine
-abbrev pub refusal : Machine → Event → ℕ
-refusal m e = byKind unknownKind (λ k. firstFailing (checks m e k)) (kindOf (e .kind))
+  -- the answer, of a well-formed machine
+  abbrev pub refusal : ℕ
+  refusal = firstFailing eventChecks

@@ -13,7 +13,7 @@ use borrow.Author.Count.{below-more}
 use borrow.Author.Tests.{not-true, not-false}
 use Rattle.bits.proofs.Tests.{fails}
 use Rattle.levels.specs.Record.{masksOf}
-use Rattle.consistency.specs.Consistent.{levelFits, levelsFit, joined}
+use Rattle.consistency.specs.Consistent.{levelFits, levelsFit, enlisted}
 use Rattle.consistency.proofs.Agrees.{fit-at, fit-all, masks-next}
 use Rattle.consistency.proofs.gather.Statement.{statement}
 use Rattle.consistency.proofs.gather.Tie as tie
@@ -69,7 +69,7 @@ loop-again c =
     sym (p .level-fits .ensures) ∙ not-false (p .level-fits .result) (p .if1 .left) in (
       omega arith,
       below-more _ _ (before .inv .1) good,
-      p .join .ensures ∙ ap (λ (ms : List ℕ). joined ms (before .cpu) (getD levels (before .cpu) 0)) (before .inv .2)
+      p .join .ensures ∙ ap (λ (ms : List ℕ). enlisted ms (before .cpu) (getD levels (before .cpu) 0)) (before .inv .2)
           ∙ sym (masks-next levels (before .cpu) (omega arith)) ∙ ap (λ (k : ℕ). masksOf (take k levels)) (sym (add-one (before .cpu))),
     )
 

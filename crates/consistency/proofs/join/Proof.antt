@@ -5,7 +5,7 @@ use mathlib.Core.Bool.{Bool, cond}
 use lib.ListN.{getD, set}
 use borrow.Author.Tests.{lt-ltb, le-ltb}
 use Rattle.bits.specs.Bit.{withBit}
-use Rattle.consistency.specs.Consistent.{joined}
+use Rattle.consistency.specs.Consistent.{enlisted}
 use Rattle.consistency.proofs.join.Statement.{statement}
 use Rattle.consistency.proofs.join.Tie as tie
 
@@ -25,7 +25,7 @@ element-write-masks : tie.Need-element-write-masks
 element-write-masks c = search needs
 
 returns : tie.Need-returns
-unfolding joined
+unfolding enlisted
 returns c =
     let a = c .before .before .before .args in
     let ms = a .masks .now in
@@ -33,7 +33,7 @@ returns c =
     ∙ ap (λ (b : Bool). cond b (set ms (a .level) (withBit (getD ms (a .level) 0) (a .cpu))) ms) (sym (lt-ltb (a .level) 102 (c .before .before .if1 .taken)))
 
 returns-2 : tie.Need-returns-2
-unfolding joined
+unfolding enlisted
 returns-2 c =
     let a = c .before .args in
     let ms = a .masks .now in

@@ -11,7 +11,7 @@ use borrow.Author.Tests.{not-true, not-false, le-leb, lt-leb, leb-true}
 use Rattle.bits.proofs.Tests.{and-right}
 use Rattle.levels.specs.Level.{levelCount}
 use Rattle.consistency.specs.Consistent.{consistent}
-use Rattle.cpupri.specs.Found.{Answer, unless, refusal, sizeFits, maskFits, findChecks, answerOf, lowestFound, found}
+use Rattle.cpupri.specs.Found.{Answer, unless, firstFailing, sizeFits, maskFits, findChecks, answerOf, lowestFound, found}
 use Rattle.levels.specs.declared.record.Record.{Record}
 use Rattle.cpupri.proofs.find.find.Statement.{statement}
 use Rattle.cpupri.proofs.find.find.Tie as tie
@@ -25,7 +25,7 @@ answer size good high fit a = unless (cond (not size) 1 (cond (not good) 2 (cond
 found-is : (n : ℕ) (r : Record) (level mask : ℕ) {size good high fit : Bool}
     → sizeFits n ≡ size → consistent n r ≡ good → leb levelCount level ≡ high → maskFits n mask ≡ fit
     → found n r level mask ≡ answer size good high fit (answerOf (lowestFound (r .masks) level mask))
-unfolding found findChecks refusal
+unfolding found findChecks firstFailing
 found-is n r level mask p q s t = λ i. answer (p i) (q i) (s i) (t i) (answerOf (lowestFound (r .masks) level mask))
 
 -- ---- the checks that were passed
