@@ -31,4 +31,15 @@ impl Level {
             number: priority + 2,
         }
     }
+
+    // The level of a CPU that runs none, by its ordinary-work flag.
+    pub fn of_flag(flag: u8) -> Level
+        requires { ⌜ flag ≤ 1 ⌝ }
+        ensures { λ r. ⌜ r .number ≡ flag ⌝ }
+    {
+        if flag == 0 {
+            return Level::IDLE;
+        }
+        Level::ORDINARY
+    }
 }

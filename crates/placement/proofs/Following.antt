@@ -94,6 +94,9 @@ module _ {m : Machine} {ps fs ks flat : List ℕ} {c : ℕ} (l : Following m ps 
       let h : (u < taskPlaces) × (getD (m .prio) u 0 ≤ highestPriority) = above m (m .prio) ks flat _ (l .queues) c u i in
       (h .0, subst (λ (qs : List ℕ). getD qs u 0 ≤ highestPriority) (sym (l .prio)) (h .1))
 
+  pub flag-read : getD fs c 0 ≤ 1
+  flag-read = subst (λ (gs : List ℕ). getD gs c 0 ≤ 1) (sym (l .flags)) (l .queues .order .flags c (l .cpu))
+
   pub level-read : {v : ℕ} → v ≡ rowLevel (λ (u : ℕ). getD ps u 0) (getD fs c 0) (rowAt ks flat c) → v ≡ level m c
   level-read e =
       e ∙ ap (λ (qs : List ℕ). rowLevel (λ (u : ℕ). getD qs u 0) (getD fs c 0) (rowAt ks flat c)) (l .prio)

@@ -77,10 +77,11 @@ pub fn cpu_level(rows: &[u16], counts: &[u16], prio: &[u8], flags: &[u8], cpu: u
     requires { ⌜ cpu < length (now flags) ⌝ }
     requires { ⌜ length (now prio) ≡ taskPlaces ⌝ }
     requires { ⌜ ((u : ℕ) → In u (rowAt (now counts) (now rows) cpu) → (u < taskPlaces) × (getD (now prio) u 0 ≤ highestPriority)) ⌝ }
+    requires { ⌜ getD (now flags) cpu 0 ≤ 1 ⌝ }
     ensures { λ r. ⌜ r .number ≡ rowLevel (λ u. getD (old prio) u 0) (getD (old flags) cpu 0) (rowAt (old counts) (old rows) cpu) ⌝ }
 {
     if counts[cpu] == 0 {
-        return Level { number: flags[cpu] };
+        return Level::of_flag(flags[cpu]);
     }
     first_level(rows, prio, cpu)
 }

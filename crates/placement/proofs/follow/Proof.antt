@@ -7,7 +7,7 @@ use native.Mathlib.Omega.{arith}
 use lib.ListN.{length, set}
 use Rattle.cpupri.specs.Record.{recordOf}
 use Rattle.placement.proofs.Order.{holds, cpus-counted}
-use Rattle.placement.proofs.Following.{tasks-read, level-read, level-ok, unmoved}
+use Rattle.placement.proofs.Following.{tasks-read, flag-read, level-read, level-ok, unmoved}
 use Rattle.placement.proofs.follow.Statement.{statement}
 use Rattle.placement.proofs.follow.Tie as tie
 use Rattle.placement.proofs.follow.Proof.Paths as at
@@ -22,7 +22,7 @@ cpu-level-requires c κs =
       holds m _ _ _ _ h,
       (
         omega (arith, cpus-counted m _ _ _ _ h, l .cpu),
-        (omega (arith, ap length (l .flags), l .flag-count, l .cpu), (ap length (l .prio) ∙ h .order .prios, tasks-read l)),
+        (omega (arith, ap length (l .flags), l .flag-count, l .cpu), (ap length (l .prio) ∙ h .order .prios, (tasks-read l, flag-read l))),
       ),
     )
 

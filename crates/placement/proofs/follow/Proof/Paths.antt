@@ -1,4 +1,4 @@
--- The places of `placement::follow` by name, and its needs that are plumbing. Written by `paths placement`: not to be edited.
+-- The places of `placement::follow` by name, and its needs that are plumbing. Written by `scripts/paths placement`: not to be edited.
 -- Assumes nothing.
 use Rattle.placement.proofs.follow.Statement.{statement}
 use Rattle.placement.proofs.follow.Tie as tie
