@@ -31,6 +31,7 @@ static void fresh(const char *name, size_t cpus)
 	memset(&m, 0x5a, sizeof(m));
 	same("the fresh machine's answer", qoriwesh_machine_init(&m, cpus), 0);
 	same("the fresh machine's check", qoriwesh_machine_check(&m), 0);
+	same("the check of its tables, lent by hand", qoriwesh_check(QORIWESH_LEND(&m)), 0);
 }
 
 /* The moves of an accepted event, or a refusal's number, negative; a refused one changes nothing. */
