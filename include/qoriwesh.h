@@ -204,30 +204,41 @@ struct qoriwesh_machine {
 	uint8_t levels[QORIWESH_CPUS];
 };
 
-/* The parameters that lend the machine's tables. With over 64 CPUs the lengths are those of 64. */
-#define QORIWESH_LEND_CPUS(m) ((m)->cpus < QORIWESH_CPUS ? (m)->cpus : (size_t)QORIWESH_CPUS)
-#define QORIWESH_LEND(m) \
-	(m)->cpus, \
+/* The parameters that lend the machine's tables, as those of n CPUs. With over 64 CPUs the lengths are those of 64. */
+#define QORIWESH_LEND_CPUS(n) ((n) < QORIWESH_CPUS ? (n) : QORIWESH_CPUS)
+#define QORIWESH_LEND_AS(m, n) \
+	(n), \
 	(m)->state, QORIWESH_TASKS, (m)->policy, QORIWESH_TASKS, \
 	(m)->prio, QORIWESH_TASKS, (m)->cpu, QORIWESH_TASKS, \
 	(m)->slice, QORIWESH_TASKS, (m)->mask, QORIWESH_TASKS, \
-	(m)->rows, QORIWESH_TASKS * QORIWESH_LEND_CPUS(m), \
-	(m)->counts, QORIWESH_LEND_CPUS(m), (m)->flags, QORIWESH_LEND_CPUS(m), \
+	(m)->rows, QORIWESH_TASKS * QORIWESH_LEND_CPUS(n), \
+	(m)->counts, QORIWESH_LEND_CPUS(n), (m)->flags, QORIWESH_LEND_CPUS(n), \
 	(m)->log, QORIWESH_LOG, \
 	(m)->level_masks, QORIWESH_LEVELS, (m)->level_counts, QORIWESH_LEVELS, \
 	(m)->level_words, QORIWESH_WORDS, (m)->levels, QORIWESH_CPUS
+#define QORIWESH_LEND(m) QORIWESH_LEND_AS(m, (m)->cpus)
 
-/* 0, or -QORIWESH_ESIZE. */
+/* A number as an int: C and C++ warn of each other's casts. */
+#ifdef __cplusplus
+#define QORIWESH_INT(x) static_cast<int>(x)
+#else
+#define QORIWESH_INT(x) ((int)(x))
+#endif
+
+/* 0, or -QORIWESH_ESIZE: then the machine is as it was. */
 static inline int qoriwesh_machine_init(struct qoriwesh_machine *m, size_t cpus)
 {
-	m->cpus = cpus;
-	return -(int)qoriwesh_make_fresh(QORIWESH_LEND(m));
+	uint8_t answer = qoriwesh_make_fresh(QORIWESH_LEND_AS(m, cpus));
+
+	if (!answer)
+		m->cpus = cpus;
+	return -answer;
 }
 
 /* 0, -QORIWESH_ESIZE or -QORIWESH_EFORM. */
 static inline int qoriwesh_machine_check(const struct qoriwesh_machine *m)
 {
-	return -(int)qoriwesh_check(QORIWESH_LEND(m));
+	return -qoriwesh_check(QORIWESH_LEND(m));
 }
 
 /* The number of moves, or a refusal's number, negative. */
@@ -238,7 +249,7 @@ static inline int qoriwesh_machine_event(struct qoriwesh_machine *m,
 	uint32_t moves;
 	uint8_t answer = qoriwesh_event(QORIWESH_LEND(m), kind, who, a, b, mask, &moves);
 
-	return answer ? -(int)answer : (int)moves;
+	return answer ? -answer : QORIWESH_INT(moves);
 }
 
 /* 0 with what was found, or a refusal's number, negative. */
@@ -246,11 +257,11 @@ static inline int qoriwesh_machine_find(const struct qoriwesh_machine *m,
 					uint32_t level, uint64_t mask,
 					uint8_t *found_level, uint64_t *found_mask)
 {
-	return -(int)qoriwesh_find(m->cpus, m->level_masks, QORIWESH_LEVELS,
-				   m->level_counts, QORIWESH_LEVELS,
-				   m->level_words, QORIWESH_WORDS,
-				   m->levels, QORIWESH_CPUS,
-				   level, mask, found_level, found_mask);
+	return -qoriwesh_find(m->cpus, m->level_masks, QORIWESH_LEVELS,
+			      m->level_counts, QORIWESH_LEVELS,
+			      m->level_words, QORIWESH_WORDS,
+			      m->levels, QORIWESH_CPUS,
+			      level, mask, found_level, found_mask);
 }
 
 #ifdef __cplusplus

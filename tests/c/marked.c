@@ -31,6 +31,7 @@ static void fresh(const char *name, size_t cpus)
 	memset(&m, 0x5a, sizeof(m));
 	same("the fresh machine's answer", qoriwesh_machine_init(&m, cpus), 0);
 	same("the fresh machine's check", qoriwesh_machine_check(&m), 0);
+	same("the check of its tables, lent by hand", qoriwesh_check(QORIWESH_LEND(&m)), 0);
 }
 
 /* The moves of an accepted event, or a refusal's number, negative; a refused one changes nothing. */
@@ -57,21 +58,21 @@ static void wake(uint32_t task, int moves)
 }
 
 /* A CPU's row: `count` tasks in run order, and 65535 behind them. */
-static void row(size_t cpu, size_t count, const uint16_t *tasks)
+static void row(int cpu, int count, const uint16_t *tasks)
 {
-	size_t i;
+	int i;
 
-	same("a row's count", m.counts[cpu], (long)count);
+	same("a row's count", m.counts[cpu], count);
 	for (i = 0; i < QORIWESH_TASKS; i++)
 		same("a place of a row", m.rows[QORIWESH_TASKS * cpu + i], i < count ? tasks[i] : QORIWESH_NOTHING);
 }
 
-static void row1(size_t cpu, uint16_t first)
+static void row1(int cpu, uint16_t first)
 {
 	row(cpu, 1, &first);
 }
 
-static void row2(size_t cpu, uint16_t first, uint16_t second)
+static void row2(int cpu, uint16_t first, uint16_t second)
 {
 	uint16_t tasks[2];
 
@@ -80,12 +81,12 @@ static void row2(size_t cpu, uint16_t first, uint16_t second)
 	row(cpu, 2, tasks);
 }
 
-static void level(size_t cpu, int want)
+static void level(int cpu, int want)
 {
 	same("a level", m.levels[cpu], want);
 }
 
-static void logged(size_t i, int task, int from, int to)
+static void logged(int i, int task, int from, int to)
 {
 	same("the task in the log", m.log[3 * i], task);
 	same("the CPU it waited on", m.log[3 * i + 1], from);
@@ -217,11 +218,22 @@ static void k10_k11(void)
 	row2(0, 1, 0);
 }
 
+/* A refused machine leaves the earlier one as it was. */
+static void refused(size_t cpus)
+{
+	static struct qoriwesh_machine before;
+
+	memcpy(&before, &m, sizeof(m));
+	same("the answer to N", qoriwesh_machine_init(&m, cpus), -QORIWESH_ESIZE);
+	same("what a refused machine changed", memcmp(&before, &m, sizeof(m)) != 0, 0);
+}
+
 static void k12(void)
 {
-	begin("K12");
-	same("N 0", qoriwesh_machine_init(&m, 0), -QORIWESH_ESIZE);
-	same("N 65", qoriwesh_machine_init(&m, 65), -QORIWESH_ESIZE);
+	k2("K12");
+	refused(0);
+	refused(65);
+	add(2, 40, 3);
 	fresh("K12", 2);
 	event(QORIWESH_ADD, 512, QORIWESH_FIFO, 50, 1, -QORIWESH_ENUMBER);
 	add(0, 50, 1);
@@ -248,7 +260,7 @@ static void others(void)
 	k2("find");
 	same("its answer", qoriwesh_machine_find(&m, QORIWESH_LEVEL_PRIO(50), 3, &found_level, &found_mask), 0);
 	same("the level", found_level, 42);
-	same("the CPUs", (long)found_mask, 2);
+	same("the CPUs are 1 alone", found_mask == 2, 1);
 	same("its answer", qoriwesh_machine_find(&m, 42, 3, &found_level, &found_mask), 0);
 	same("no level", found_level, QORIWESH_LEVEL_INVALID);
 	same("its refusal", qoriwesh_machine_find(&m, 102, 3, &found_level, &found_mask), -QORIWESH_EVALUE);

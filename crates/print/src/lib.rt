@@ -1,4 +1,4 @@
-// What the program `marked` writes: an event with its answer, and the tables.
+// What a script's programs print: an answer, and the tables.
 use libc::STDOUT_FILENO;
 
 pub fn text(words: &[u8]) {
@@ -11,39 +11,9 @@ fn number(before: &[u8], x: u64) {
     io::print_decimal(STDOUT_FILENO, x);
 }
 
-pub fn made(n: u8, answer: u8) {
-    number(b"fresh, N ", n as u64);
-    number(b": answer ", answer as u64);
+pub fn answer(x: u8) {
+    number(b": answer ", x as u64);
     text(b"\n");
-}
-
-pub fn checked(answer: u8) {
-    number(b"check: answer ", answer as u64);
-    text(b"\n");
-}
-
-// The five numbers of an event: kind, who, a, b, mask.
-pub fn asked(kind: u32, who: u32, a: u32, b: u32, mask: u64) {
-    name(kind);
-    number(b" ", who as u64);
-    number(b", ", a as u64);
-    number(b", ", b as u64);
-    number(b", ", mask);
-}
-
-fn name(kind: u32) {
-    match kind {
-        1 => text(b"add"),
-        2 => text(b"remove"),
-        3 => text(b"wake"),
-        4 => text(b"sleep"),
-        5 => text(b"priority"),
-        6 => text(b"mask"),
-        7 => text(b"tick"),
-        8 => text(b"yield"),
-        9 => text(b"ordinary"),
-        _ => number(b"kind ", kind as u64),
-    }
 }
 
 // The answer, the number of moves and their entries of the log.

@@ -9,7 +9,7 @@ pub fn read(word: &str) -> Result<u64, String> {
     }
     let mut mask = 0;
     for part in word.split(',') {
-        mask |= read_range(part, word)?;
+        mask |= read_range(part).map_err(|wrong| told(wrong, part, word))?;
     }
     Ok(mask)
 }
@@ -26,20 +26,33 @@ pub fn read_hex(word: &str) -> Option<Result<u64, String>> {
     Some(u64::from_str_radix(digits, 16).map_err(|_| wrong))
 }
 
+/// What is wrong with a part of a list.
+enum Wrong {
+    Form,
+    TooLarge,
+}
+
+/// The message, with the part that is wrong, or with the list if that part is empty.
+fn told(wrong: Wrong, part: &str, word: &str) -> String {
+    let found = quoted(if part.is_empty() { word } else { part });
+    match wrong {
+        Wrong::Form => {
+            format!("expected CPUs as a list (0-1,3) or a mask (0x0b), found {found}")
+        }
+        Wrong::TooLarge => {
+            format!("expected CPUs 0 to 63, which a mask of 64 bits can name, found {found}")
+        }
+    }
+}
+
 /// One part of a list: `3`, `0-7`, or every second of them, `0-7:2`.
-fn read_range(part: &str, word: &str) -> Result<u64, String> {
-    let found = quoted(word);
-    let wrong = format!("expected CPUs as a list (0-1,3) or a mask (0x0b), found {found}");
-    let Some((first, last, step)) = range(part) else {
-        return Err(wrong);
-    };
+fn read_range(part: &str) -> Result<u64, Wrong> {
+    let (first, last, step) = range(part).ok_or(Wrong::Form)?;
     if last > 63 {
-        return Err(format!(
-            "expected CPUs 0 to 63, which a mask of 64 bits can name, found {found}"
-        ));
+        return Err(Wrong::TooLarge);
     }
     if first > last || step == 0 {
-        return Err(wrong);
+        return Err(Wrong::Form);
     }
     let cpus = (first..=last).step_by(step);
     Ok(cpus.fold(0, |mask, cpu| mask | 1 << cpu))
@@ -104,6 +117,26 @@ mod tests {
         for word in words.split(' ').chain([""]) {
             assert!(read(word).is_err(), "{word:?} was read");
         }
+    }
+
+    /// The part that is wrong is shown, at most 40 characters of it.
+    #[test]
+    fn an_error_shows_the_part_that_is_wrong() {
+        let list = "0,".repeat(400_000);
+        let long = "7".repeat(1000);
+        for (last, shown) in [
+            ("64", "64"),
+            ("2-1", "2-1"),
+            (&long[..], &format!("{}...", &long[..40])),
+        ] {
+            let message = read(&format!("{list}{last},{list}0")).unwrap_err();
+            assert!(
+                message.ends_with(&format!(", found '{shown}'")),
+                "{message}"
+            );
+        }
+        let message = read("0-1,,3").unwrap_err();
+        assert!(message.ends_with(", found '0-1,,3'"), "{message}");
     }
 
     #[test]

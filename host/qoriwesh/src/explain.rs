@@ -25,7 +25,13 @@ pub fn read(file: Option<&OsStr>) -> Result<Vec<Line>, String> {
             "{name}: expected at most {LONGEST} bytes, found more; no event was run"
         ));
     }
-    parse(&text).map_err(|problems| told(&name, &problems))
+    let lines = parse(&text).map_err(|problems| told(&name, &problems))?;
+    if lines.is_empty() {
+        return Err(format!(
+            "{name}: expected 'cpus N' and events, found nothing; no event was run"
+        ));
+    }
+    Ok(lines)
 }
 
 fn read_bytes(file: Option<&OsStr>) -> io::Result<Vec<u8>> {

@@ -1,6 +1,7 @@
 //! The command line: which command, and how it ends.
 
 mod cpulist;
+mod cycle;
 mod examples;
 mod explain;
 mod help;
@@ -9,6 +10,7 @@ mod parse;
 mod reasons;
 mod render;
 mod show;
+mod stdout;
 mod words;
 
 use show::Failure;
@@ -51,10 +53,7 @@ fn run(command: Command) -> ExitCode {
 /// Writes to standard output through a buffer: 0 if all is well, 1 if not. If the reader goes away, as `head`
 /// does, the rest is left unsaid.
 fn finish(show: impl FnOnce(&mut dyn Write) -> Result<bool, Failure>) -> ExitCode {
-    let mut out = BufWriter::new(io::stdout().lock());
-    let well = show(&mut out);
-    let flushed = out.flush().map_err(Failure::Output);
-    match well.and_then(|well| flushed.map(|()| well)) {
+    match written(show) {
         Ok(true) => ExitCode::SUCCESS,
         Ok(false) => ExitCode::from(1),
         Err(Failure::Output(broken)) if broken.kind() == ErrorKind::BrokenPipe => ExitCode::SUCCESS,
@@ -63,6 +62,14 @@ fn finish(show: impl FnOnce(&mut dyn Write) -> Result<bool, Failure>) -> ExitCod
             "defect: {what}; what is shown above was compared, no more events were run"
         )),
     }
+}
+
+fn written(show: impl FnOnce(&mut dyn Write) -> Result<bool, Failure>) -> Result<bool, Failure> {
+    stdout::open()?;
+    let mut out = BufWriter::new(io::stdout().lock());
+    let well = show(&mut out);
+    let flushed = out.flush().map_err(Failure::Output);
+    well.and_then(|well| flushed.map(|()| well))
 }
 
 /// Says each line of the message with the program's name, and ends with 2.

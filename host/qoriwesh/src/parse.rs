@@ -9,6 +9,9 @@ use binding::Event;
 /// The most ticks that one line may ask for.
 pub const MOST_TICKS: u32 = 10_000;
 
+/// What some editors put before a text in UTF-8.
+const BYTE_ORDER_MARK: &[u8] = b"\xef\xbb\xbf";
+
 /// What a line asks for.
 #[derive(Clone, Copy, Debug, PartialEq, Eq)]
 pub enum Action {
@@ -35,9 +38,9 @@ pub struct Problem {
 const COMMANDS: &str =
     "cpus, add, remove, wake, sleep, prio, affinity, tick, yield, ordinary or event";
 
-/// All lines, or every line that cannot be read.
+/// All lines, or every line that cannot be read. A byte order mark may stand before the first.
 pub fn parse(text: &[u8]) -> Result<Vec<Line>, Vec<Problem>> {
-    parse_after(text, false)
+    parse_after(text.strip_prefix(BYTE_ORDER_MARK).unwrap_or(text), false)
 }
 
 /// The same; `machine`: there is a machine already, so that the text need not begin with `cpus`.
@@ -56,12 +59,6 @@ pub fn parse_after(text: &[u8], mut machine: bool) -> Result<Vec<Line>, Vec<Prob
         }
         // Also after a wrong `cpus` line, so that the lines below are not told for its sake.
         machine = machine || bytes.trim_ascii_start().starts_with(b"cpus");
-    }
-    if lines.is_empty() && problems.is_empty() {
-        problems.push(Problem {
-            line: 1,
-            message: "expected 'cpus N' and events, found nothing".to_string(),
-        });
     }
     if problems.is_empty() {
         Ok(lines)
@@ -240,7 +237,11 @@ fn on_or_off(word: &str) -> Result<u32, String> {
 /// What stands in the text, short and without control characters.
 pub fn quoted(word: &str) -> String {
     let shown: String = word.chars().take(40).flat_map(char::escape_debug).collect();
-    let rest = if word.chars().count() > 40 { "..." } else { "" };
+    let rest = if word.chars().nth(40).is_some() {
+        "..."
+    } else {
+        ""
+    };
     format!("'{shown}{rest}'")
 }
 
@@ -390,9 +391,12 @@ mod tests {
     }
 
     #[test]
-    fn nothing_to_run_is_an_error() {
-        for text in ["", "\n", "# only this\n"] {
-            assert_eq!(parse(text.as_bytes()).unwrap_err()[0].line, 1);
+    fn a_byte_order_mark_stands_before_the_first_line_alone() {
+        let expected = parse(b"cpus 2\nwake 0\n");
+        assert_eq!(parse(b"\xef\xbb\xbfcpus 2\nwake 0\n"), expected);
+        assert_eq!(parse(b"\xef\xbb\xbf"), Ok(Vec::new()));
+        for text in ["\u{feff}\u{feff}cpus 2\n", "cpus 2\n\u{feff}wake 0\n"] {
+            assert_eq!(parse(text.as_bytes()).unwrap_err().len(), 1, "{text:?}");
         }
     }
 }

@@ -1,5 +1,6 @@
 //! Runs actions on a machine and shows what each did.
 
+use crate::cycle::Cycle;
 use crate::parse::Action;
 use crate::reasons::{self, Move};
 use crate::{render, words};
@@ -33,6 +34,13 @@ pub struct Step {
     pub moves: Vec<Move>,
 }
 
+impl Step {
+    /// Accepted, and no task moved.
+    fn is_quiet(&self) -> bool {
+        self.answer == 0 && self.moves.is_empty()
+    }
+}
+
 /// How many events were accepted and refused, and the moves. A refused machine counts as refused.
 #[derive(Clone, Copy, Debug, Default, PartialEq, Eq)]
 pub struct Tally {
@@ -49,6 +57,8 @@ pub struct Show<'a> {
     made: bool,
     /// The rows and levels shown last.
     shown: Vec<String>,
+    /// Of the line before, if it repeats an event.
+    cycle: Option<Cycle>,
     pub tally: Tally,
 }
 
@@ -59,6 +69,7 @@ impl<'a> Show<'a> {
             tables: Tables::zeroed(0),
             made: false,
             shown: Vec::new(),
+            cycle: None,
             tally: Tally::default(),
         }
     }
@@ -74,9 +85,15 @@ impl<'a> Show<'a> {
 
     /// Does what a line asks for; `number` is shown before it. The last step of it is handed back.
     pub fn action(&mut self, number: usize, action: Action) -> Result<Step, Failure> {
+        let cycle = self.cycle.take();
         match action {
             Action::Machine(n) => self.machine(number, n),
-            Action::Event { event, times } => self.events(number, event, times),
+            Action::Event { event, times: 1 } => self.event(number, event),
+            Action::Event { event, times } => {
+                let cycle = cycle.filter(|cycle| cycle.is_of(event));
+                let cycle = cycle.unwrap_or_else(|| Cycle::new(event, &self.tables));
+                self.events(number, event, u64::from(times), cycle)
+            }
         }
     }
 
@@ -107,16 +124,38 @@ impl<'a> Show<'a> {
         })
     }
 
+    /// An event once.
+    fn event(&mut self, number: usize, event: Event) -> Result<Step, Failure> {
+        let before = self.tables.clone();
+        let step = self.handle(&before, event)?;
+        self.step(number, event, &step)?;
+        Ok(step)
+    }
+
     /// The same event several times. Those without moves are shown together; a refusal ends them.
-    fn events(&mut self, number: usize, event: Event, times: u32) -> Result<Step, Failure> {
+    fn events(
+        &mut self,
+        number: usize,
+        event: Event,
+        mut left: u64,
+        mut cycle: Cycle,
+    ) -> Result<Step, Failure> {
         let mut quiet = 0;
         let mut last = Step::default();
-        for _ in 0..times {
+        loop {
+            let rounds = left - cycle.without_rounds(left);
+            self.tally.accepted += rounds;
+            quiet += rounds;
+            left -= rounds;
+            if left == 0 {
+                break;
+            }
             let before = self.tables.clone();
-            last = handle(&mut self.tables, event)?;
-            self.count(&last);
-            if last.answer == 0 && last.moves.is_empty() {
+            last = self.handle(&before, event)?;
+            left -= 1;
+            if last.is_quiet() {
                 quiet += 1;
+                cycle.see(&self.tables);
                 continue;
             }
             self.quiet(number, event, quiet, &before)?;
@@ -125,10 +164,20 @@ impl<'a> Show<'a> {
             if last.answer != 0 {
                 return Ok(last);
             }
+            cycle = Cycle::new(event, &self.tables);
         }
         let tables = self.tables.clone();
         self.quiet(number, event, quiet, &tables)?;
+        self.cycle = Some(cycle);
         Ok(last)
+    }
+
+    /// One event through the library, counted.
+    fn handle(&mut self, before: &Tables, event: Event) -> Result<Step, Failure> {
+        let outcome = self.tables.event(event);
+        let step = judged(before, event, &self.tables, outcome).map_err(Failure::Defect)?;
+        self.count(&step);
+        Ok(step)
     }
 
     fn count(&mut self, step: &Step) {
@@ -138,7 +187,7 @@ impl<'a> Show<'a> {
     }
 
     /// Shows accepted events without moves, and the rows after them.
-    fn quiet(&mut self, n: usize, e: Event, times: u32, after: &Tables) -> Result<(), Failure> {
+    fn quiet(&mut self, n: usize, e: Event, times: u64, after: &Tables) -> Result<(), Failure> {
         if times == 0 {
             return Ok(());
         }
@@ -146,7 +195,7 @@ impl<'a> Show<'a> {
         self.changed(after)
     }
 
-    /// Shows one event that was refused or made moves.
+    /// Shows one event, with its moves and the rows after it.
     fn step(&mut self, number: usize, event: Event, step: &Step) -> Result<(), Failure> {
         let title = words::event(event);
         if step.answer != 0 {
@@ -198,13 +247,6 @@ impl<'a> Show<'a> {
         }
         Ok(())
     }
-}
-
-/// One event through the library.
-fn handle(tables: &mut Tables, event: Event) -> Result<Step, Failure> {
-    let before = tables.clone();
-    let outcome = tables.event(event);
-    judged(&before, event, tables, outcome).map_err(Failure::Defect)
 }
 
 /// The outcome with the reasons of its moves. That a refusal changes nothing is looked at.
@@ -269,6 +311,30 @@ mod tests {
         );
         assert!(text.contains("tick on CPU 0, 5 times"), "{text}");
         assert_eq!((tally.accepted, tally.moves), (6 + 105, 1));
+    }
+
+    /// Of 9,000 ticks on three rr tasks, of which one begins with half a slice, most are not run.
+    #[test]
+    fn many_ticks_end_where_as_many_single_ones_do() {
+        let tasks = "cpus 2\nadd 0 rr 9 0\nadd 1 rr 9 0\nadd 2 rr 9 0\nadd 3 fifo 5 1\n\
+                     wake 0\nwake 1\nwake 2\nwake 3\ntick 0 50\nyield 0\n";
+        let end = |ticks: &str| {
+            let mut out = Vec::new();
+            let mut show = Show::new(&mut out);
+            for line in parse(format!("{tasks}{ticks}").as_bytes()).unwrap() {
+                show.action(line.number, line.action).unwrap();
+            }
+            (show.tables.clone(), show.tally)
+        };
+        for times in [2, 49, 50, 51, 300, 301, 777, 9000] {
+            let single = end(&"tick 0\n".repeat(times));
+            assert_eq!(end(&format!("tick 0 {times}")), single, "{times}");
+            let half = times / 2;
+            let halves = format!("tick 0 {half}\ntick 0 {}\n", times - half);
+            assert_eq!(end(&halves), single, "{times} in two lines");
+            let other = format!("tick 0 {half}\ntick 1 500\ntick 0 {}\n", times - half);
+            assert_eq!(end(&other).0, single.0, "{times} with others between");
+        }
     }
 
     #[test]

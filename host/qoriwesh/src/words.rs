@@ -53,7 +53,7 @@ pub fn event(e: Event) -> String {
 }
 
 /// An event with how often it came, if more than once.
-pub fn events(e: Event, times: u32) -> String {
+pub fn events(e: Event, times: u64) -> String {
     match times {
         1 => event(e),
         _ => format!("{}, {times} times", event(e)),

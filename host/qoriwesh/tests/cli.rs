@@ -4,6 +4,7 @@ use std::fs;
 use std::io::{Read, Write};
 use std::path::{Path, PathBuf};
 use std::process::{Command, Stdio};
+use std::time::{Duration, Instant};
 
 const PROGRAM: &str = env!("CARGO_BIN_EXE_qoriwesh");
 
@@ -165,6 +166,65 @@ fn a_wrong_line_of_a_file_has_its_name() {
 }
 
 #[test]
+fn a_text_without_a_command_has_no_wrong_line() {
+    for text in ["", "\n\n", "# only this\n", "\u{feff}"] {
+        let ended = run(&["explain"], text.as_bytes());
+        assert_eq!((ended.status, ended.out.as_str()), (2, ""), "{text:?}");
+        assert_eq!(
+            ended.err,
+            "qoriwesh: <stdin>: expected 'cpus N' and events, found nothing; no event was run\n"
+        );
+    }
+}
+
+#[test]
+fn a_byte_order_mark_is_no_part_of_the_text() {
+    let text = "cpus 1\nadd 0 fifo 50 0\nwake 0\n";
+    let plain = run(&["explain"], text.as_bytes());
+    let marked = run(&["explain"], format!("\u{feff}{text}").as_bytes());
+    assert_eq!((marked.status, marked.err.as_str()), (0, ""));
+    assert_eq!(marked.out, plain.out);
+}
+
+/// Runs a text that takes long if something in it is done again and again.
+fn run_soon(text: &str) -> Ended {
+    let begin = Instant::now();
+    let ended = run(&["explain"], text.as_bytes());
+    assert!(begin.elapsed() < Duration::from_secs(10));
+    ended
+}
+
+#[test]
+fn a_list_of_many_cpus_is_read_soon() {
+    let list = "0,".repeat(400_000);
+    let ended = run_soon(&format!("cpus 1\nadd 0 fifo 50 {list}0\n"));
+    assert_eq!((ended.status, ended.err.as_str()), (0, ""));
+    let ended = run_soon(&format!("cpus 1\nadd 0 fifo 50 {list}64\n"));
+    assert_eq!(
+        ended.err,
+        "qoriwesh: <stdin>:2: expected CPUs 0 to 63, which a mask of 64 bits can name, found '64'\n\
+         qoriwesh: <stdin>: 1 line could not be read; no event was run\n"
+    );
+}
+
+/// On an idle CPU, under a fifo task, and under rr tasks that take turns.
+#[test]
+fn many_ticks_are_run_soon() {
+    let mut tasks = "cpus 64\nadd 0 fifo 50 1\nwake 0\n".to_string();
+    for task in 1..11 {
+        tasks += &format!("add {task} rr 50 2\nwake {task}\n");
+    }
+    for cpu in 0..3 {
+        let ticks = format!("tick {cpu} 10000\n").repeat(2000);
+        let ended = run_soon(&format!("{tasks}{ticks}"));
+        assert_eq!((ended.status, ended.err.as_str()), (0, ""));
+        assert!(ended
+            .out
+            .ends_with("\n20000022 accepted, 0 refused, 0 moves in all\n"));
+    }
+}
+
+#[test]
 fn a_file_that_cannot_be_read() {
     for name in ["/nonexistent/events", "/"] {
         let ended = run(&["explain", name], b"");
@@ -268,4 +328,21 @@ fn an_output_that_cannot_be_written_is_an_error() {
     assert_eq!(output.status.code(), Some(2));
     let err = String::from_utf8(output.stderr).unwrap();
     assert!(err.starts_with("qoriwesh: standard output: "), "{err}");
+}
+
+#[test]
+fn a_closed_output_is_an_error() {
+    for args in ["examples", "explain", "--help"] {
+        let mut child = Command::new("sh")
+            .args(["-c", "exec \"$0\" \"$1\" >&-", PROGRAM, args])
+            .stdin(Stdio::piped())
+            .stderr(Stdio::piped())
+            .spawn()
+            .unwrap();
+        let _ = child.stdin.take().unwrap().write_all(b"cpus 1\n");
+        let output = child.wait_with_output().unwrap();
+        assert_eq!(output.status.code(), Some(2), "{args}");
+        let err = String::from_utf8(output.stderr).unwrap();
+        assert!(err.starts_with("qoriwesh: standard output: "), "{err}");
+    }
 }
