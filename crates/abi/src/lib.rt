@@ -3,7 +3,7 @@
 ghost use mathlib.Core.Path.{_≡_};
 ghost use Rattle.bits.specs.Moments.{new};
 ghost use Rattle.levels.specs.Lent.{oldRecord, newRecord};
-ghost use Rattle.checker.specs.Lent.{oldTables, newTables};
+ghost use Rattle.lenttables.specs.Lent.{oldTables, newTables};
 ghost use Rattle.rules.specs.Events.{effect, event as numbers};
 ghost use Rattle.rules.specs.LentDemand3.{LentDemand3};
 ghost use Rattle.rules.specs.Tables.{machineOf};

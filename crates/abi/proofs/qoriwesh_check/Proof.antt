@@ -5,7 +5,7 @@ use mathlib.Core.Path.{sym, _∙_}
 use borrow.Author.Tests.{not-true, not-false}
 use Rattle.levels.specs.Lent.{nowRecord}
 use Rattle.levels.specs.declared.record.Record.{Record}
-use Rattle.checker.specs.Lent.{nowTables}
+use Rattle.lenttables.specs.Lent.{nowTables}
 use Rattle.rules.specs.Tables.{Tables}
 use Rattle.lentrecord.proofs.Entries.{checked-unfit, checked-fit}
 use Rattle.abi.proofs.qoriwesh_check.Statement.{statement}

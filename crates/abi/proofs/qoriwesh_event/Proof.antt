@@ -6,7 +6,7 @@ use borrow.Author.Tests.{not-true, not-false}
 use Rattle.levels.specs.Lent.{nowRecord}
 use Rattle.levels.specs.declared.record.Record.{Record}
 use Rattle.cpupri.specs.Record.{lentRecord}
-use Rattle.checker.specs.Lent.{lent, nowTables}
+use Rattle.lenttables.specs.Lent.{lent, nowTables}
 use Rattle.rules.specs.Events.{Event, event}
 use Rattle.rules.specs.Tables.{Tables}
 use Rattle.lentrecord.proofs.Entries.{handled-unfit, handled-fit, checked-again, refused}
