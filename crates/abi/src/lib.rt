@@ -10,9 +10,9 @@ ghost use Rattle.rules.specs.Tables.{machineOf};
 ghost use Rattle.rules.specs.Entry.{result};
 ghost use Rattle.lentrecord.specs.Entry.{made, checked, handled, found, answer};
 use cpupri::find::Found;
-use cpupri::level::Level;
 use lentrecord::lengths_fit;
 use lentrecord::read;
+use lentrecord::tell;
 use lentrecord::write;
 use rules::answer::BAD_SIZE;
 
@@ -204,28 +204,15 @@ pub extern "C" fn qoriwesh_find(
     ensures { λ o. let r = oldRecord «level_masks» «level_counts» «level_words» levels in
         ⌜ answer o (new «found_level») (new «found_mask») ≡ found n r level mask ⌝ }
 {
-    let invalid = Level::INVALID;
-    *found_level = invalid.number;
-    *found_mask = 0;
     if !lengths_fit(
         level_masks.len(),
         level_counts.len(),
         level_words.len(),
         levels.len(),
     ) {
-        return BAD_SIZE;
+        return tell(Found::Refused(BAD_SIZE), found_level, found_mask);
     }
     let record = read(level_masks, level_counts, level_words, levels);
-    match cpupri::find::find(n, record, level, mask) {
-        Found::Cpus {
-            level: l,
-            mask: cpus,
-        } => {
-            *found_level = l;
-            *found_mask = cpus;
-            0
-        }
-        Found::Nothing => 0,
-        Found::Refused(number) => number,
-    }
+    let lowest = cpupri::find::find(n, record, level, mask);
+    tell(lowest, found_level, found_mask)
 }

@@ -1,5 +1,6 @@
 -- The places of `abi::qoriwesh_event` by name, and its needs that are plumbing. Written by `scripts/paths abi`: not to be edited.
 -- Assumes nothing.
+use borrow.Author.Needs.{needs}
 use mathlib.Core.List.{List}
 use Prim.Native.Nat.{ℕ}
 use Rattle.abi.proofs.qoriwesh_event.Statement.{statement}
@@ -7,6 +8,12 @@ use Rattle.abi.proofs.qoriwesh_event.Tie as tie
 
 abbrev typeOf : {A : Type 0} → A → Type 0
 typeOf {A} x = A
+
+lengths-fit-requires : tie.Need-lengths-fit-requires
+lengths-fit-requires c κs = search needs
+
+event-requires : tie.Need-event-requires
+event-requires c κs = search needs
 
 abbrev pub start : (c : tie.Start) → record { args : typeOf (c .args); start : tie.Start }
 start c = record { args = c .args; start = c }
@@ -41,15 +48,15 @@ write-requires c = after-event (c .before .before .before .before .before .befor
 abbrev pub returns-2 : (c : tie.After-slice-known28) → typeOf (after-write (c .before .before .before .before .before .before .before .before))
 returns-2 c = after-write (c .before .before .before .before .before .before .before .before)
 
-pub close : {M : Type 1} → tie.Need-lengths-fit-requires → tie.Need-returns → tie.Need-read-requires → tie.Need-event-requires → tie.Need-write-requires → tie.Need-returns-2 → statement M
-close a0 a1 a2 a3 a4 a5 =
+pub close : {M : Type 1} → tie.Need-returns → tie.Need-read-requires → tie.Need-write-requires → tie.Need-returns-2 → statement M
+close a0 a1 a2 a3 =
     tie.close
     (tie.spec
+    lengths-fit-requires
     a0
     a1
+    event-requires
     a2
-    a3
-    a4
     (λ c. returns-2 c .event .kept .1 .0)
     (λ c. returns-2 c .event .kept .1 .1 .0)
     (λ c. returns-2 c .event .kept .1 .1 .1 .0)
@@ -64,4 +71,4 @@ close a0 a1 a2 a3 a4 a5 =
     (λ c. returns-2 c .write .kept .1 .1 .0)
     (λ c. returns-2 c .write .kept .1 .1 .1 .0)
     (λ c. returns-2 c .write .kept .1 .1 .1 .1 .0)
-    a5)
+    a3)
