@@ -64,8 +64,7 @@ pub extern "C" fn qoriwesh_make_fresh(
         log,
         given,
     );
-    let record = made.record;
-    write(record, level_masks, level_counts, level_words, levels);
+    write(made.record, level_masks, level_counts, level_words, levels);
     made.answer
 }
 
@@ -182,8 +181,7 @@ pub extern "C" fn qoriwesh_event(
         given,
     );
     *moves = o.moves;
-    let record = o.record;
-    write(record, level_masks, level_counts, level_words, levels);
+    write(o.record, level_masks, level_counts, level_words, levels);
     o.answer
 }
 
