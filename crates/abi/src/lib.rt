@@ -3,16 +3,16 @@
 ghost use mathlib.Core.Path.{_≡_};
 ghost use Rattle.bits.specs.Moments.{new};
 ghost use Rattle.levels.specs.Lent.{oldRecord, newRecord};
-ghost use Rattle.checker.specs.Lent.{oldTables, newTables};
+ghost use Rattle.lenttables.specs.Lent.{oldTables, newTables};
 ghost use Rattle.rules.specs.Events.{effect, event as numbers};
 ghost use Rattle.rules.specs.LentDemand3.{LentDemand3};
 ghost use Rattle.rules.specs.Tables.{machineOf};
 ghost use Rattle.rules.specs.Entry.{result};
 ghost use Rattle.lentrecord.specs.Entry.{made, checked, handled, found, answer};
 use cpupri::find::Found;
-use cpupri::level::Level;
 use lentrecord::lengths_fit;
 use lentrecord::read;
+use lentrecord::tell;
 use lentrecord::write;
 use rules::answer::BAD_SIZE;
 
@@ -64,8 +64,7 @@ pub extern "C" fn qoriwesh_make_fresh(
         log,
         given,
     );
-    let record = made.record;
-    write(record, level_masks, level_counts, level_words, levels);
+    write(made.record, level_masks, level_counts, level_words, levels);
     made.answer
 }
 
@@ -182,8 +181,7 @@ pub extern "C" fn qoriwesh_event(
         given,
     );
     *moves = o.moves;
-    let record = o.record;
-    write(record, level_masks, level_counts, level_words, levels);
+    write(o.record, level_masks, level_counts, level_words, levels);
     o.answer
 }
 
@@ -204,28 +202,15 @@ pub extern "C" fn qoriwesh_find(
     ensures { λ o. let r = oldRecord «level_masks» «level_counts» «level_words» levels in
         ⌜ answer o (new «found_level») (new «found_mask») ≡ found n r level mask ⌝ }
 {
-    let invalid = Level::INVALID;
-    *found_level = invalid.number;
-    *found_mask = 0;
     if !lengths_fit(
         level_masks.len(),
         level_counts.len(),
         level_words.len(),
         levels.len(),
     ) {
-        return BAD_SIZE;
+        return tell(Found::Refused(BAD_SIZE), found_level, found_mask);
     }
     let record = read(level_masks, level_counts, level_words, levels);
-    match cpupri::find::find(n, record, level, mask) {
-        Found::Cpus {
-            level: l,
-            mask: cpus,
-        } => {
-            *found_level = l;
-            *found_mask = cpus;
-            0
-        }
-        Found::Nothing => 0,
-        Found::Refused(number) => number,
-    }
+    let lowest = cpupri::find::find(n, record, level, mask);
+    tell(lowest, found_level, found_mask)
 }

@@ -1,4 +1,4 @@
-// Tables without a task: every place free, every row empty.
+// Tables without a task: every place free, every row empty, no move logged.
 ghost use mathlib.Core.Path.{_≡_};
 ghost use lib.ListN.{length, replicate};
 ghost use Rattle.bits.specs.Moments.{old, new};
@@ -35,13 +35,15 @@ pub fn free_tasks(
     fill_u64(mask, 0);
 }
 
-// No task stands in a row, and no CPU has ordinary work.
-pub fn empty_rows(rows: &mut [u16], counts: &mut [u16], flags: &mut [u8])
+// No task stands in a row, no CPU has ordinary work, and no move is logged.
+pub fn empty_rows(rows: &mut [u16], counts: &mut [u16], flags: &mut [u8], log: &mut [u16])
     ensures { λ u. ⌜ new rows ≡ replicate (length (old rows)) nothing ⌝ }
     ensures { λ u. ⌜ new counts ≡ replicate (length (old counts)) 0 ⌝ }
     ensures { λ u. ⌜ new flags ≡ replicate (length (old flags)) 0 ⌝ }
+    ensures { λ u. ⌜ new log ≡ replicate (length (old log)) nothing ⌝ }
 {
     fill_u16(rows, NOTHING);
     fill_u16(counts, 0);
     fill_u8(flags, 0);
+    fill_u16(log, NOTHING);
 }

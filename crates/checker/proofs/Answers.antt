@@ -16,14 +16,6 @@ use Rattle.rules.specs.Tables.{Tables, machineOf, padded, flatOf, rowCounts, no
 use Rattle.rules.specs.Entry.{kept, made, written, checked}
 use Rattle.rules.proofs.Record.{levels-fresh}
 use Rattle.rules.proofs.Entry.{lengths-shape, made-fresh}
-use Rattle.checker.specs.Lent.{sizesFit}
-
--- the test of the lengths alone is the rules'
-pub sizes-fit : (n : ℕ) (s : Tables)
-    → sizesFit n (length (s .state)) (length (s .policy)) (length (s .prio)) (length (s .cpu)) (length (s .slice)) (length (s .mask)) (length (s .rows))
-    (length (s .counts)) (length (s .flags)) (length (s .log)) ≡ lengthsFit n s
-unfolding sizesFit
-sizes-fit n s = refl
 
 module _ (n : ℕ) (r : Record) (s : Tables) where
   pub checked-size : lengthsFit n s ≡ false → checked n r s ≡ badSize

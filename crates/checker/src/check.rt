@@ -8,10 +8,10 @@ ghost use Rattle.rules.specs.WellFormed.{Shape};
 ghost use Rattle.rules.specs.Tables.{machineOf, tablesFit};
 ghost use Rattle.rules.specs.Entry.{checked};
 ghost use Rattle.bits.specs.Moments.{old};
-ghost use Rattle.checker.specs.Lent.{lent, oldTables};
-use super::sizes::lengths_fit;
+ghost use Rattle.lenttables.specs.Lent.{lent, oldTables};
 use cpupri::consistent::is_consistent;
 use cpupri::record::Record;
+use lenttables::lengths_fit;
 use rules::answer::ACCEPTED;
 use rules::answer::BAD_SIZE;
 use rules::answer::ILL_FORMED;
@@ -38,16 +38,16 @@ pub fn check(
 {
     if !lengths_fit(
         n,
-        state.len(),
-        policy.len(),
-        prio.len(),
-        cpu.len(),
-        slice.len(),
-        mask.len(),
-        rows.len(),
-        counts.len(),
-        flags.len(),
-        log.len(),
+        state,
+        policy,
+        prio,
+        cpu,
+        slice,
+        mask,
+        rows,
+        counts,
+        flags,
+        log,
     ) {
         return BAD_SIZE;
     }

@@ -1,15 +1,13 @@
 // A fresh machine in lent tables.
 ghost use mathlib.Core.Path.{_≡_};
 ghost use Rattle.rules.specs.Entry.{kept, made};
-ghost use Rattle.checker.specs.Lent.{oldTables, newTables};
-use super::sizes::lengths_fit;
+ghost use Rattle.lenttables.specs.Lent.{oldTables, newTables};
 use blank::empty_rows;
-use blank::fill::fill_u16;
 use blank::free_tasks;
 use cpupri::record::Record;
+use lenttables::sizes_fit;
 use rules::answer::ACCEPTED;
 use rules::answer::BAD_SIZE;
-use runqueue::row::NOTHING;
 
 // The answer, and the record that comes back.
 pub struct Made {
@@ -37,7 +35,7 @@ pub fn make_fresh(
         let t = newTables state policy prio cpu slice mask rows counts flags log in
         ⌜ kept (m .answer) (m .«record») t ≡ made n «record» s ⌝ }
 {
-    if !lengths_fit(
+    if !sizes_fit(
         n,
         state.len(),
         policy.len(),
@@ -56,8 +54,7 @@ pub fn make_fresh(
         };
     }
     free_tasks(state, policy, prio, cpu, slice, mask);
-    empty_rows(rows, counts, flags);
-    fill_u16(log, NOTHING);
+    empty_rows(rows, counts, flags, log);
     Made {
         answer: ACCEPTED,
         record: Record::fresh(n),

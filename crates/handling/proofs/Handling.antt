@@ -22,7 +22,7 @@ use Rattle.rules.proofs.Runs.{settle-run, run-keeps, run-few}
 use Rattle.rules.proofs.Tables.{write-read, stored-test}
 use Rattle.rules.proofs.Entry.{checked-good, good-checked, answer-checked, answer-event, handled-answer, handled-refused, handled-accepted, handled-good, start-n}
 use Rattle.rules.proofs.LentDemand3.{handled-lent}
-use Rattle.checker.specs.Lent.{lent}
+use Rattle.lenttables.specs.Lent.{lent}
 use Rattle.kinds.specs.Decided.{did}
 use Rattle.deciding.specs.Subject.{subjectOf, Lent, LentRows, Decides}
 use Rattle.kinds.specs.declared.plan.Decision.{Decision}

@@ -5,7 +5,7 @@ ghost use Rattle.bits.specs.Moments.{new};
 ghost use Rattle.levels.specs.Lent.{nowRecord, oldRecord, newRecord};
 ghost use Rattle.rules.specs.Entry.{result, checked, handled};
 ghost use Rattle.rules.specs.Events.{event as numbers};
-ghost use Rattle.checker.specs.Lent.{nowTables, oldTables, newTables};
+ghost use Rattle.lenttables.specs.Lent.{nowTables, oldTables, newTables};
 use cpupri::record::CPUS;
 use cpupri::record::LEVELS;
 use cpupri::record::WORDS;

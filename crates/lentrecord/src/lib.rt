@@ -1,11 +1,16 @@
-// The CPU-priority record as a C caller lends it: four tables.
+// The CPU-priority record as a C caller lends it, four tables; and the finder's answer as C has it.
 ghost use mathlib.Core.Path.{_≡_};
 ghost use mathlib.Core.Bool.{true};
 ghost use lib.ListN.{length};
+ghost use Rattle.bits.specs.Moments.{new};
 ghost use Rattle.levels.specs.Lent.{oldRecord, newRecord};
+ghost use Rattle.cpupri.specs.Found.{answerOf};
+ghost use Rattle.lentrecord.specs.Entry.{answer};
 ghost use Rattle.lentrecord.specs.Lent.{recordFits};
 use copy::copy_u8;
 use copy::copy_u64;
+use cpupri::find::Found;
+use cpupri::level::Level;
 use cpupri::record::CPUS;
 use cpupri::record::LEVELS;
 use cpupri::record::Record;
@@ -56,4 +61,26 @@ pub fn write(
     copy_u8(&record.counts, counts);
     copy_u64(&record.words, words);
     copy_u8(&record.levels, levels);
+}
+
+// What the finder found, told to a C caller: its level and CPUs where the caller wants them, 255 and 0 if there are none, and the
+// number that is returned.
+pub fn tell(found: Found, level: &mut u8, mask: &mut u64) -> u8
+    ensures { λ o. ⌜ answer o (new level) (new mask) ≡ answerOf found ⌝ }
+{
+    let invalid = Level::INVALID;
+    *level = invalid.number;
+    *mask = 0;
+    match found {
+        Found::Cpus {
+            level: l,
+            mask: cpus,
+        } => {
+            *level = l;
+            *mask = cpus;
+            0
+        }
+        Found::Nothing => 0,
+        Found::Refused(number) => number,
+    }
 }

@@ -5,7 +5,7 @@ ghost use Rattle.rules.specs.Entry.{result, checked, handled};
 ghost use Rattle.rules.specs.Events.{effect, event as numbers};
 ghost use Rattle.rules.specs.LentDemand3.{LentDemand3};
 ghost use Rattle.rules.specs.Tables.{machineOf};
-ghost use Rattle.checker.specs.Lent.{oldTables, newTables};
+ghost use Rattle.lenttables.specs.Lent.{oldTables, newTables};
 use cpupri::record::Record;
 pub use handling::handle;
 

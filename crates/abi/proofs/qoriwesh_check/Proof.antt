@@ -1,11 +1,10 @@
 -- `abi::qoriwesh_check` meets its contract.
 -- Assumes nothing.
-use borrow.Author.Needs.{needs}
 use mathlib.Core.Path.{sym, _∙_}
 use borrow.Author.Tests.{not-true, not-false}
 use Rattle.levels.specs.Lent.{nowRecord}
 use Rattle.levels.specs.declared.record.Record.{Record}
-use Rattle.checker.specs.Lent.{nowTables}
+use Rattle.lenttables.specs.Lent.{nowTables}
 use Rattle.rules.specs.Tables.{Tables}
 use Rattle.lentrecord.proofs.Entries.{checked-unfit, checked-fit}
 use Rattle.abi.proofs.qoriwesh_check.Statement.{statement}
@@ -23,9 +22,6 @@ module _ (c : tie.Start) where
       let x = c .args in
       nowTables (x .state) (x .policy) (x .prio) (x .cpu) (x .slice) (x .mask) (x .rows) (x .counts) (x .flags) (x .log)
 
-lengths-fit-requires : tie.Need-lengths-fit-requires
-lengths-fit-requires c κs = search needs
-
 returns : tie.Need-returns
 returns c =
     let k = at.returns c in
@@ -34,9 +30,6 @@ returns c =
 
 read-requires : tie.Need-read-requires
 read-requires c κs = let k = at.read-requires c in let f = k .lengths-fit in sym (f .ensures) ∙ not-false (f .result) (k .if1 .left)
-
-check-requires : tie.Need-check-requires
-check-requires c κs = search needs
 
 returns-2 : tie.Need-returns-2
 returns-2 c =
@@ -48,4 +41,4 @@ returns-2 c =
     (g .ensures) (k .check .ensures)
 
 pub qoriwesh-check-spec : {M : Type 1} → statement M
-qoriwesh-check-spec = at.close lengths-fit-requires returns read-requires check-requires returns-2
+qoriwesh-check-spec = at.close returns read-requires returns-2

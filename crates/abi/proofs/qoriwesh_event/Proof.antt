@@ -1,12 +1,11 @@
 -- `abi::qoriwesh_event` meets its contract.
 -- Assumes nothing.
-use borrow.Author.Needs.{needs}
 use mathlib.Core.Path.{sym, _∙_}
 use borrow.Author.Tests.{not-true, not-false}
 use Rattle.levels.specs.Lent.{nowRecord}
 use Rattle.levels.specs.declared.record.Record.{Record}
 use Rattle.cpupri.specs.Record.{lentRecord}
-use Rattle.checker.specs.Lent.{lent, nowTables}
+use Rattle.lenttables.specs.Lent.{lent, nowTables}
 use Rattle.rules.specs.Events.{Event, event}
 use Rattle.rules.specs.Tables.{Tables}
 use Rattle.lentrecord.proofs.Entries.{handled-unfit, handled-fit, checked-again, refused}
@@ -39,9 +38,6 @@ module _ (c : tie.After-write) where
       let o = at.after-write c .event-last in
       lent (o .state) (o .policy) (o .prio) (o .cpu) (o .slice) (o .mask) (o .rows) (o .counts) (o .flags) (o .log)
 
-lengths-fit-requires : tie.Need-lengths-fit-requires
-lengths-fit-requires c κs = search needs
-
 returns : tie.Need-returns
 returns c =
     let k = at.returns c in
@@ -53,9 +49,6 @@ returns c =
 
 read-requires : tie.Need-read-requires
 read-requires c κs = let k = at.read-requires c in let f = k .lengths-fit in sym (f .ensures) ∙ not-false (f .result) (k .if1 .left)
-
-event-requires : tie.Need-event-requires
-event-requires c κs = search needs
 
 write-requires : tie.Need-write-requires
 write-requires c κs = let k = at.write-requires c in let f = k .lengths-fit in sym (f .ensures) ∙ not-false (f .result) (k .if1 .left)
@@ -77,4 +70,4 @@ returns-2 c =
     )
 
 pub qoriwesh-event-spec : {M : Type 1} → statement M
-qoriwesh-event-spec = at.close lengths-fit-requires returns read-requires event-requires write-requires returns-2
+qoriwesh-event-spec = at.close returns read-requires write-requires returns-2

@@ -1,12 +1,11 @@
 -- `abi::qoriwesh_make_fresh` meets its contract.
 -- Assumes nothing.
-use borrow.Author.Needs.{needs}
 use mathlib.Core.Path.{sym, _∙_}
 use borrow.Author.Tests.{not-true, not-false}
 use Rattle.levels.specs.Lent.{nowRecord}
 use Rattle.levels.specs.declared.record.Record.{Record}
 use Rattle.cpupri.specs.Record.{lentRecord}
-use Rattle.checker.specs.Lent.{lent, nowTables}
+use Rattle.lenttables.specs.Lent.{lent, nowTables}
 use Rattle.rules.specs.Tables.{Tables}
 use Rattle.lentrecord.proofs.Entries.{made-unfit, made-fit}
 use Rattle.abi.proofs.qoriwesh_make_fresh.Statement.{statement}
@@ -34,9 +33,6 @@ module _ (c : tie.After-write) where
       let o = at.after-write c .make-fresh-last in
       lent (o .state) (o .policy) (o .prio) (o .cpu) (o .slice) (o .mask) (o .rows) (o .counts) (o .flags) (o .log)
 
-lengths-fit-requires : tie.Need-lengths-fit-requires
-lengths-fit-requires c κs = search needs
-
 returns : tie.Need-returns
 returns c =
     let k = at.returns c in
@@ -45,9 +41,6 @@ returns c =
 
 read-requires : tie.Need-read-requires
 read-requires c κs = let k = at.read-requires c in let f = k .lengths-fit in sym (f .ensures) ∙ not-false (f .result) (k .if1 .left)
-
-make-fresh-requires : tie.Need-make-fresh-requires
-make-fresh-requires c κs = search needs
 
 write-requires : tie.Need-write-requires
 write-requires c κs = let k = at.write-requires c in let f = k .lengths-fit in sym (f .ensures) ∙ not-false (f .result) (k .if1 .left)
@@ -64,4 +57,4 @@ returns-2 c =
     (sym (f .ensures) ∙ not-false (f .result) (k .if1 .left)) (g .ensures) (o .ensures) (k .write .ensures)
 
 pub qoriwesh-make-fresh-spec : {M : Type 1} → statement M
-qoriwesh-make-fresh-spec = at.close lengths-fit-requires returns read-requires make-fresh-requires write-requires returns-2
+qoriwesh-make-fresh-spec = at.close returns read-requires write-requires returns-2

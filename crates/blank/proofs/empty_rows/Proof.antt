@@ -9,7 +9,10 @@ returns c = let k = at.returns c in (
   k .fill-u16 .ensures,
   (
     k .fill-u162 .ensures,
-    k .fill-u8 .ensures,
+    (
+      k .fill-u8 .ensures,
+      k .fill-u163 .ensures,
+    ),
   ),
 )
 

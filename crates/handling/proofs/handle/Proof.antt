@@ -9,7 +9,7 @@ use Rattle.cpupri.specs.Record.{lentRecord}
 use Rattle.rules.specs.Events.{Event, event, effect}
 use Rattle.rules.specs.Machine.{Machine}
 use Rattle.rules.specs.Tables.{Tables, machineOf}
-use Rattle.checker.specs.Lent.{lent, nowTables}
+use Rattle.lenttables.specs.Lent.{lent, nowTables}
 use Rattle.deciding.specs.Subject.{Decides}
 use Rattle.handling.proofs.Decisions.{not-refused}
 use Rattle.handling.proofs.Handling.{Passed, Carried, lent-rows, lent-columns, carriable, refused-result, carries, start-settling, start-cpus, log-long, taken-result, taken-few}

@@ -3,7 +3,7 @@
 use borrow.Author.Needs.{needs}
 use mathlib.Core.Path.{sym, _∙_}
 use Rattle.cpupri.specs.Record.{lentRecord}
-use Rattle.checker.specs.Lent.{lent, nowTables}
+use Rattle.lenttables.specs.Lent.{lent, nowTables}
 use Rattle.rules.specs.Events.{Event, event}
 use Rattle.rules.specs.Tables.{Tables}
 use Rattle.handling.proofs.Handling.{unchecked-result, result-demand}

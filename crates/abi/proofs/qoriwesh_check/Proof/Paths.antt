@@ -1,10 +1,17 @@
 -- The places of `abi::qoriwesh_check` by name, and its needs that are plumbing. Written by `scripts/paths abi`: not to be edited.
 -- Assumes nothing.
+use borrow.Author.Needs.{needs}
 use Rattle.abi.proofs.qoriwesh_check.Statement.{statement}
 use Rattle.abi.proofs.qoriwesh_check.Tie as tie
 
 abbrev typeOf : {A : Type 0} → A → Type 0
 typeOf {A} x = A
+
+lengths-fit-requires : tie.Need-lengths-fit-requires
+lengths-fit-requires c κs = search needs
+
+check-requires : tie.Need-check-requires
+check-requires c κs = search needs
 
 abbrev pub start : (c : tie.Start) → record { args : typeOf (c .args); start : tie.Start }
 start c = record { args = c .args; start = c }
@@ -33,12 +40,12 @@ read-requires c = else1 c
 abbrev pub returns-2 : (c : tie.After-check) → typeOf (after-check c)
 returns-2 c = after-check c
 
-pub close : {M : Type 1} → tie.Need-lengths-fit-requires → tie.Need-returns → tie.Need-read-requires → tie.Need-check-requires → tie.Need-returns-2 → statement M
-close a0 a1 a2 a3 a4 =
+pub close : {M : Type 1} → tie.Need-returns → tie.Need-read-requires → tie.Need-returns-2 → statement M
+close a0 a1 a2 =
     tie.close
     (tie.spec
+    lengths-fit-requires
     a0
     a1
-    a2
-    a3
-    a4)
+    check-requires
+    a2)

@@ -1,5 +1,6 @@
 -- The places of `abi::qoriwesh_event` by name, and its needs that are plumbing. Written by `scripts/paths abi`: not to be edited.
 -- Assumes nothing.
+use borrow.Author.Needs.{needs}
 use mathlib.Core.List.{List}
 use Prim.Native.Nat.{ℕ}
 use Rattle.abi.proofs.qoriwesh_event.Statement.{statement}
@@ -7,6 +8,12 @@ use Rattle.abi.proofs.qoriwesh_event.Tie as tie
 
 abbrev typeOf : {A : Type 0} → A → Type 0
 typeOf {A} x = A
+
+lengths-fit-requires : tie.Need-lengths-fit-requires
+lengths-fit-requires c κs = search needs
+
+event-requires : tie.Need-event-requires
+event-requires c κs = search needs
 
 abbrev pub start : (c : tie.Start) → record { args : typeOf (c .args); start : tie.Start }
 start c = record { args = c .args; start = c }
@@ -26,8 +33,8 @@ after-read c = let b = else1 (c .before .before .before .before .before) in reco
 abbrev pub after-event : (c : tie.After-event) → let b = after-read (c .before .before .before .before .before .before .before .before .before .before .before) in record { args : typeOf (b .args); start : typeOf (b .start); lengths-fit : typeOf (b .lengths-fit); if1 : typeOf (b .if1); read : typeOf (b .read); event : typeOf (c .event); event-last : record { state : List ℕ; policy : List ℕ; prio : List ℕ; cpu : List ℕ; slice : List ℕ; mask : List ℕ; rows : List ℕ; counts : List ℕ; flags : List ℕ; log : List ℕ } }
 after-event c = let b = after-read (c .before .before .before .before .before .before .before .before .before .before .before) in record { args = b .args; start = b .start; lengths-fit = b .lengths-fit; if1 = b .if1; read = b .read; event = c .event; event-last = record { state = c .event .last .1 .0; policy = c .event .last .1 .1 .0; prio = c .event .last .1 .1 .1 .0; cpu = c .event .last .1 .1 .1 .1 .0; slice = c .event .last .1 .1 .1 .1 .1 .0; mask = c .event .last .1 .1 .1 .1 .1 .1 .0; rows = c .event .last .1 .1 .1 .1 .1 .1 .1 .0; counts = c .event .last .1 .1 .1 .1 .1 .1 .1 .1 .0; flags = c .event .last .1 .1 .1 .1 .1 .1 .1 .1 .1 .0; log = c .event .last .1 .1 .1 .1 .1 .1 .1 .1 .1 .1 .0 } }
 
-abbrev pub after-write : (c : tie.After-write) → let b = after-event (c .before .before .before .before .before .before .before .before .before .before .before .before .before .before .before .before .before .before .before .before .before .before .before .before .before .before) in record { args : typeOf (b .args); start : typeOf (b .start); lengths-fit : typeOf (b .lengths-fit); if1 : typeOf (b .if1); read : typeOf (b .read); event : typeOf (b .event); event-last : typeOf (b .event-last); write : typeOf (c .write); write-last : record { masks : List ℕ; counts : List ℕ; words : List ℕ; levels : List ℕ }; after-write : tie.After-write }
-after-write c = let b = after-event (c .before .before .before .before .before .before .before .before .before .before .before .before .before .before .before .before .before .before .before .before .before .before .before .before .before .before) in record { args = b .args; start = b .start; lengths-fit = b .lengths-fit; if1 = b .if1; read = b .read; event = b .event; event-last = b .event-last; write = c .write; write-last = record { masks = c .write .last .1 .0; counts = c .write .last .1 .1 .0; words = c .write .last .1 .1 .1 .0; levels = c .write .last .1 .1 .1 .1 .0 }; after-write = c }
+abbrev pub after-write : (c : tie.After-write) → let b = after-event (c .before .before .before .before .before .before .before .before .before .before .before .before .before .before .before .before .before .before .before .before .before .before .before .before .before) in record { args : typeOf (b .args); start : typeOf (b .start); lengths-fit : typeOf (b .lengths-fit); if1 : typeOf (b .if1); read : typeOf (b .read); event : typeOf (b .event); event-last : typeOf (b .event-last); write : typeOf (c .write); write-last : record { masks : List ℕ; counts : List ℕ; words : List ℕ; levels : List ℕ }; after-write : tie.After-write }
+after-write c = let b = after-event (c .before .before .before .before .before .before .before .before .before .before .before .before .before .before .before .before .before .before .before .before .before .before .before .before .before) in record { args = b .args; start = b .start; lengths-fit = b .lengths-fit; if1 = b .if1; read = b .read; event = b .event; event-last = b .event-last; write = c .write; write-last = record { masks = c .write .last .1 .0; counts = c .write .last .1 .1 .0; words = c .write .last .1 .1 .1 .0; levels = c .write .last .1 .1 .1 .1 .0 }; after-write = c }
 
 abbrev pub returns : (c : tie.Then1) → typeOf (then1 c)
 returns c = then1 c
@@ -35,21 +42,21 @@ returns c = then1 c
 abbrev pub read-requires : (c : tie.After-read-arg4) → typeOf (else1 (c .before .before .before .before))
 read-requires c = else1 (c .before .before .before .before)
 
-abbrev pub write-requires : (c : tie.After-write-arg4) → typeOf (after-event (c .before .before .before .before .before .before .before .before .before .before .before .before .before .before .before .before .before .before .before .before .before .before .before .before .before))
-write-requires c = after-event (c .before .before .before .before .before .before .before .before .before .before .before .before .before .before .before .before .before .before .before .before .before .before .before .before .before)
+abbrev pub write-requires : (c : tie.After-write-arg4) → typeOf (after-event (c .before .before .before .before .before .before .before .before .before .before .before .before .before .before .before .before .before .before .before .before .before .before .before .before))
+write-requires c = after-event (c .before .before .before .before .before .before .before .before .before .before .before .before .before .before .before .before .before .before .before .before .before .before .before .before)
 
 abbrev pub returns-2 : (c : tie.After-slice-known28) → typeOf (after-write (c .before .before .before .before .before .before .before .before))
 returns-2 c = after-write (c .before .before .before .before .before .before .before .before)
 
-pub close : {M : Type 1} → tie.Need-lengths-fit-requires → tie.Need-returns → tie.Need-read-requires → tie.Need-event-requires → tie.Need-write-requires → tie.Need-returns-2 → statement M
-close a0 a1 a2 a3 a4 a5 =
+pub close : {M : Type 1} → tie.Need-returns → tie.Need-read-requires → tie.Need-write-requires → tie.Need-returns-2 → statement M
+close a0 a1 a2 a3 =
     tie.close
     (tie.spec
+    lengths-fit-requires
     a0
     a1
+    event-requires
     a2
-    a3
-    a4
     (λ c. returns-2 c .event .kept .1 .0)
     (λ c. returns-2 c .event .kept .1 .1 .0)
     (λ c. returns-2 c .event .kept .1 .1 .1 .0)
@@ -64,4 +71,4 @@ close a0 a1 a2 a3 a4 a5 =
     (λ c. returns-2 c .write .kept .1 .1 .0)
     (λ c. returns-2 c .write .kept .1 .1 .1 .0)
     (λ c. returns-2 c .write .kept .1 .1 .1 .1 .0)
-    a5)
+    a3)

@@ -1,10 +1,9 @@
 -- `checker::check::check` meets its contract.
 -- Assumes nothing.
-use borrow.Author.Needs.{needs}
 use mathlib.Core.Path.{sym, _∙_}
 use mathlib.Core.Bool.{true, false}
 use borrow.Author.Tests.{not-true, not-false}
-use Rattle.checker.specs.Lent.{nowTables, sizesFit}
+use Rattle.lenttables.specs.Lent.{nowTables}
 use Rattle.rules.specs.Tables.{Tables}
 use Rattle.rules.proofs.Entry.{lengths-shape}
 use Rattle.checker.proofs.Answers.{checked-size, checked-form}
@@ -20,18 +19,13 @@ module _ (c : tie.Start) where
       let x = c .args in
       nowTables (x .state) (x .policy) (x .prio) (x .cpu) (x .slice) (x .mask) (x .rows) (x .counts) (x .flags) (x .log)
 
-lengths-fit-requires : tie.Need-lengths-fit-requires
-lengths-fit-requires c κs = search needs
-
 returns : tie.Need-returns
-unfolding sizesFit
 returns c =
     let k = at.returns c in
     let f = k .lengths-fit in
     sym (checked-size (k .args .n) (k .args .«record») (tables (k .start)) (sym (f .ensures) ∙ not-true (f .result) (k .if1 .taken)))
 
 tables-fit-requires : tie.Need-tables-fit-requires
-unfolding sizesFit
 tables-fit-requires c κs =
     let k = at.tables-fit-requires c in
     let f = k .lengths-fit in
@@ -39,7 +33,6 @@ tables-fit-requires c κs =
     (l .0, (l .1, l .2))
 
 returns-2 : tie.Need-returns-2
-unfolding sizesFit
 returns-2 c =
     let k = at.returns-2 c in
     let f = k .lengths-fit in
@@ -49,7 +42,6 @@ returns-2 c =
     (sym (g .ensures) ∙ not-true (g .result) (k .if2 .taken)))
 
 returns-3 : tie.Need-returns-3
-unfolding sizesFit
 returns-3 c =
     let k = at.returns-3 c in
     let f = k .lengths-fit in
@@ -59,4 +51,4 @@ returns-3 c =
     (sym (g .ensures) ∙ not-false (g .result) (k .if2 .left)))
 
 pub check-spec : {M : Type 1} → statement M
-check-spec = at.close lengths-fit-requires returns tables-fit-requires returns-2 returns-3
+check-spec = at.close returns tables-fit-requires returns-2 returns-3

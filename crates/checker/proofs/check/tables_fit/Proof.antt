@@ -12,7 +12,7 @@ use Rattle.bits.proofs.Tests.{and-both, fails}
 use Rattle.rules.proofs.Bools.{both}
 use Rattle.cpupri.specs.Consistent.{Sized}
 use Rattle.rules.specs.Tables.{Tables, tablesFit}
-use Rattle.checker.specs.Lent.{lent}
+use Rattle.lenttables.specs.Lent.{lent}
 use Rattle.rowcheck.proofs.Saying.{yes, no, said}
 use Rattle.wellformed.proofs.Whole.{decides, passes-fit, fit-rows, fit-columns, fit-consistent}
 use Rattle.checker.proofs.check.tables_fit.Statement.{statement}

@@ -1,9 +1,8 @@
 -- `checker::fresh::make_fresh` meets its contract.
 -- Assumes nothing.
-use borrow.Author.Needs.{needs}
 use mathlib.Core.Path.{sym, _∙_}
 use borrow.Author.Tests.{not-true, not-false}
-use Rattle.checker.specs.Lent.{lent, nowTables, sizesFit}
+use Rattle.lenttables.specs.Lent.{lent, nowTables, sizesFit}
 use Rattle.rules.specs.Tables.{Tables}
 use Rattle.rules.proofs.Entry.{lengths-shape, made-refused}
 use Rattle.checker.proofs.Answers.{made-blank}
@@ -19,43 +18,31 @@ module _ (c : tie.Start) where
       let x = c .args in
       nowTables (x .state) (x .policy) (x .prio) (x .cpu) (x .slice) (x .mask) (x .rows) (x .counts) (x .flags) (x .log)
 
-lengths-fit-requires : tie.Need-lengths-fit-requires
-lengths-fit-requires c κs = search needs
-
 returns : tie.Need-returns
 unfolding sizesFit
 returns c =
     let k = at.returns c in
-    let f = k .lengths-fit in
+    let f = k .sizes-fit in
     sym (made-refused (k .args .n) (k .args .«record») (tables (k .start)) (sym (f .ensures) ∙ not-true (f .result) (k .if1 .taken)))
-
-free-tasks-requires : tie.Need-free-tasks-requires
-free-tasks-requires c κs = search needs
-
-empty-rows-requires : tie.Need-empty-rows-requires
-empty-rows-requires c κs = search needs
-
-fill-u16-requires : tie.Need-fill-u16-requires
-fill-u16-requires c κs = search needs
 
 fresh-requires : tie.Need-fresh-requires
 unfolding sizesFit
 fresh-requires c κs =
     let k = at.fresh-requires c in
-    let f = k .lengths-fit in
+    let f = k .sizes-fit in
     lengths-shape (k .args .n) (tables (k .start)) (sym (f .ensures) ∙ not-false (f .result) (k .if1 .left)) .0 .cpus
 
 returns-2 : tie.Need-returns-2
 unfolding sizesFit
 returns-2 c =
     let k = at.returns-2 c in
-    let f = k .lengths-fit in
+    let f = k .sizes-fit in
     let t = k .free-tasks-last in
     let r = k .empty-rows-last in
     let tasks = k .free-tasks .ensures in
     let rows = k .empty-rows .ensures in
     made-blank (k .args .n) (k .args .«record») (k .fresh .result) (tables (k .start))
-    (lent (t .state) (t .policy) (t .prio) (t .cpu) (t .slice) (t .mask) (r .rows) (r .counts) (r .flags) (k .fill-u16 .last .0))
+    (lent (t .state) (t .policy) (t .prio) (t .cpu) (t .slice) (t .mask) (r .rows) (r .counts) (r .flags) (r .log))
     (sym (f .ensures) ∙ not-false (f .result) (k .if1 .left))
     (record {
       state = tasks .0;
@@ -66,11 +53,11 @@ returns-2 c =
       mask = tasks .1 .1 .1 .1 .1;
       rows = rows .0;
       counts = rows .1 .0;
-      flags = rows .1 .1;
-      log = k .fill-u16 .ensures;
+      flags = rows .1 .1 .0;
+      log = rows .1 .1 .1;
     })
     (k .fresh .ensures)
 
 pub make-fresh-spec : {M : Type 1} → statement M
 make-fresh-spec =
-    at.close lengths-fit-requires returns free-tasks-requires empty-rows-requires fill-u16-requires fresh-requires returns-2
+    at.close returns fresh-requires returns-2

@@ -1,10 +1,14 @@
--- The places of `checker::check::check` by name, and its needs that are plumbing. Written by `paths checker`: not to be edited.
+-- The places of `checker::check::check` by name, and its needs that are plumbing. Written by `scripts/paths checker`: not to be edited.
 -- Assumes nothing.
+use borrow.Author.Needs.{needs}
 use Rattle.checker.proofs.check.check.Statement.{statement}
 use Rattle.checker.proofs.check.check.Tie as tie
 
 abbrev typeOf : {A : Type 0} → A → Type 0
 typeOf {A} x = A
+
+lengths-fit-requires : tie.Need-lengths-fit-requires
+lengths-fit-requires c κs = search needs
 
 abbrev pub start : (c : tie.Start) → record { args : typeOf (c .args); start : tie.Start }
 start c = record { args = c .args; start = c }
@@ -39,12 +43,12 @@ returns-2 c = then2 c
 abbrev pub returns-3 : (c : tie.Else2) → typeOf (else2 c)
 returns-3 c = else2 c
 
-pub close : {M : Type 1} → tie.Need-lengths-fit-requires → tie.Need-returns → tie.Need-tables-fit-requires → tie.Need-returns-2 → tie.Need-returns-3 → statement M
-close a0 a1 a2 a3 a4 =
+pub close : {M : Type 1} → tie.Need-returns → tie.Need-tables-fit-requires → tie.Need-returns-2 → tie.Need-returns-3 → statement M
+close a0 a1 a2 a3 =
     tie.close
     (tie.spec
+    lengths-fit-requires
     a0
     a1
     a2
-    a3
-    a4)
+    a3)

@@ -1,4 +1,4 @@
--- The places of `checker::check::tables_fit` by name, and its needs that are plumbing. Written by `paths checker`: not to be edited.
+-- The places of `checker::check::tables_fit` by name, and its needs that are plumbing. Written by `scripts/paths checker`: not to be edited.
 -- Assumes nothing.
 use Rattle.checker.proofs.check.tables_fit.Statement.{statement}
 use Rattle.checker.proofs.check.tables_fit.Tie as tie

@@ -1,5 +1,6 @@
--- The places of `checker::fresh::make_fresh` by name, and its needs that are plumbing. Written by `paths checker`: not to be edited.
+-- The places of `checker::fresh::make_fresh` by name, and its needs that are plumbing. Written by `scripts/paths checker`: not to be edited.
 -- Assumes nothing.
+use borrow.Author.Needs.{needs}
 use mathlib.Core.List.{List}
 use Prim.Native.Nat.{ℕ}
 use Rattle.checker.proofs.fresh.make_fresh.Statement.{statement}
@@ -8,49 +9,54 @@ use Rattle.checker.proofs.fresh.make_fresh.Tie as tie
 abbrev typeOf : {A : Type 0} → A → Type 0
 typeOf {A} x = A
 
+sizes-fit-requires : tie.Need-sizes-fit-requires
+sizes-fit-requires c κs = search needs
+
+free-tasks-requires : tie.Need-free-tasks-requires
+free-tasks-requires c κs = search needs
+
+empty-rows-requires : tie.Need-empty-rows-requires
+empty-rows-requires c κs = search needs
+
 abbrev pub start : (c : tie.Start) → record { args : typeOf (c .args); start : tie.Start }
 start c = record { args = c .args; start = c }
 
-abbrev pub after-lengths-fit : (c : tie.After-lengths-fit) → let b = start (c .before .before .before .before .before .before .before .before .before .before .before) in record { args : typeOf (b .args); start : typeOf (b .start); lengths-fit : typeOf (c .lengths-fit) }
-after-lengths-fit c = let b = start (c .before .before .before .before .before .before .before .before .before .before .before) in record { args = b .args; start = b .start; lengths-fit = c .lengths-fit }
+abbrev pub after-sizes-fit : (c : tie.After-sizes-fit) → let b = start (c .before .before .before .before .before .before .before .before .before .before .before) in record { args : typeOf (b .args); start : typeOf (b .start); sizes-fit : typeOf (c .sizes-fit) }
+after-sizes-fit c = let b = start (c .before .before .before .before .before .before .before .before .before .before .before) in record { args = b .args; start = b .start; sizes-fit = c .sizes-fit }
 
-abbrev pub then1 : (c : tie.Then1) → let b = after-lengths-fit (c .before) in record { args : typeOf (b .args); start : typeOf (b .start); lengths-fit : typeOf (b .lengths-fit); if1 : typeOf (c .if1) }
-then1 c = let b = after-lengths-fit (c .before) in record { args = b .args; start = b .start; lengths-fit = b .lengths-fit; if1 = c .if1 }
+abbrev pub then1 : (c : tie.Then1) → let b = after-sizes-fit (c .before) in record { args : typeOf (b .args); start : typeOf (b .start); sizes-fit : typeOf (b .sizes-fit); if1 : typeOf (c .if1) }
+then1 c = let b = after-sizes-fit (c .before) in record { args = b .args; start = b .start; sizes-fit = b .sizes-fit; if1 = c .if1 }
 
-abbrev pub else1 : (c : tie.Else1) → let b = after-lengths-fit (c .before) in record { args : typeOf (b .args); start : typeOf (b .start); lengths-fit : typeOf (b .lengths-fit); if1 : typeOf (c .if1) }
-else1 c = let b = after-lengths-fit (c .before) in record { args = b .args; start = b .start; lengths-fit = b .lengths-fit; if1 = c .if1 }
+abbrev pub else1 : (c : tie.Else1) → let b = after-sizes-fit (c .before) in record { args : typeOf (b .args); start : typeOf (b .start); sizes-fit : typeOf (b .sizes-fit); if1 : typeOf (c .if1) }
+else1 c = let b = after-sizes-fit (c .before) in record { args = b .args; start = b .start; sizes-fit = b .sizes-fit; if1 = c .if1 }
 
-abbrev pub after-free-tasks : (c : tie.After-free-tasks) → let b = else1 (c .before .before .before .before .before .before .before) in record { args : typeOf (b .args); start : typeOf (b .start); lengths-fit : typeOf (b .lengths-fit); if1 : typeOf (b .if1); free-tasks : typeOf (c .free-tasks); free-tasks-last : record { state : List ℕ; policy : List ℕ; prio : List ℕ; cpu : List ℕ; slice : List ℕ; mask : List ℕ } }
-after-free-tasks c = let b = else1 (c .before .before .before .before .before .before .before) in record { args = b .args; start = b .start; lengths-fit = b .lengths-fit; if1 = b .if1; free-tasks = c .free-tasks; free-tasks-last = record { state = c .free-tasks .last .0; policy = c .free-tasks .last .1 .0; prio = c .free-tasks .last .1 .1 .0; cpu = c .free-tasks .last .1 .1 .1 .0; slice = c .free-tasks .last .1 .1 .1 .1 .0; mask = c .free-tasks .last .1 .1 .1 .1 .1 .0 } }
+abbrev pub after-free-tasks : (c : tie.After-free-tasks) → let b = else1 (c .before .before .before .before .before .before .before) in record { args : typeOf (b .args); start : typeOf (b .start); sizes-fit : typeOf (b .sizes-fit); if1 : typeOf (b .if1); free-tasks : typeOf (c .free-tasks); free-tasks-last : record { state : List ℕ; policy : List ℕ; prio : List ℕ; cpu : List ℕ; slice : List ℕ; mask : List ℕ } }
+after-free-tasks c = let b = else1 (c .before .before .before .before .before .before .before) in record { args = b .args; start = b .start; sizes-fit = b .sizes-fit; if1 = b .if1; free-tasks = c .free-tasks; free-tasks-last = record { state = c .free-tasks .last .0; policy = c .free-tasks .last .1 .0; prio = c .free-tasks .last .1 .1 .0; cpu = c .free-tasks .last .1 .1 .1 .0; slice = c .free-tasks .last .1 .1 .1 .1 .0; mask = c .free-tasks .last .1 .1 .1 .1 .1 .0 } }
 
-abbrev pub after-empty-rows : (c : tie.After-empty-rows) → let b = after-free-tasks (c .before .before .before .before .before .before .before .before .before .before .before .before .before .before .before .before) in record { args : typeOf (b .args); start : typeOf (b .start); lengths-fit : typeOf (b .lengths-fit); if1 : typeOf (b .if1); free-tasks : typeOf (b .free-tasks); free-tasks-last : typeOf (b .free-tasks-last); empty-rows : typeOf (c .empty-rows); empty-rows-last : record { rows : List ℕ; counts : List ℕ; flags : List ℕ } }
-after-empty-rows c = let b = after-free-tasks (c .before .before .before .before .before .before .before .before .before .before .before .before .before .before .before .before) in record { args = b .args; start = b .start; lengths-fit = b .lengths-fit; if1 = b .if1; free-tasks = b .free-tasks; free-tasks-last = b .free-tasks-last; empty-rows = c .empty-rows; empty-rows-last = record { rows = c .empty-rows .last .0; counts = c .empty-rows .last .1 .0; flags = c .empty-rows .last .1 .1 .0 } }
+abbrev pub after-empty-rows : (c : tie.After-empty-rows) → let b = after-free-tasks (c .before .before .before .before .before .before .before .before .before .before .before .before .before .before .before .before .before) in record { args : typeOf (b .args); start : typeOf (b .start); sizes-fit : typeOf (b .sizes-fit); if1 : typeOf (b .if1); free-tasks : typeOf (b .free-tasks); free-tasks-last : typeOf (b .free-tasks-last); empty-rows : typeOf (c .empty-rows); empty-rows-last : record { rows : List ℕ; counts : List ℕ; flags : List ℕ; log : List ℕ } }
+after-empty-rows c = let b = after-free-tasks (c .before .before .before .before .before .before .before .before .before .before .before .before .before .before .before .before .before) in record { args = b .args; start = b .start; sizes-fit = b .sizes-fit; if1 = b .if1; free-tasks = b .free-tasks; free-tasks-last = b .free-tasks-last; empty-rows = c .empty-rows; empty-rows-last = record { rows = c .empty-rows .last .0; counts = c .empty-rows .last .1 .0; flags = c .empty-rows .last .1 .1 .0; log = c .empty-rows .last .1 .1 .1 .0 } }
 
-abbrev pub after-fill-u16 : (c : tie.After-fill-u16) → let b = after-empty-rows (c .before .before .before .before .before .before .before .before) in record { args : typeOf (b .args); start : typeOf (b .start); lengths-fit : typeOf (b .lengths-fit); if1 : typeOf (b .if1); free-tasks : typeOf (b .free-tasks); free-tasks-last : typeOf (b .free-tasks-last); empty-rows : typeOf (b .empty-rows); empty-rows-last : typeOf (b .empty-rows-last); fill-u16 : typeOf (c .fill-u16) }
-after-fill-u16 c = let b = after-empty-rows (c .before .before .before .before .before .before .before .before) in record { args = b .args; start = b .start; lengths-fit = b .lengths-fit; if1 = b .if1; free-tasks = b .free-tasks; free-tasks-last = b .free-tasks-last; empty-rows = b .empty-rows; empty-rows-last = b .empty-rows-last; fill-u16 = c .fill-u16 }
-
-abbrev pub after-fresh : (c : tie.After-fresh) → let b = after-fill-u16 (c .before .before .before) in record { args : typeOf (b .args); start : typeOf (b .start); lengths-fit : typeOf (b .lengths-fit); if1 : typeOf (b .if1); free-tasks : typeOf (b .free-tasks); free-tasks-last : typeOf (b .free-tasks-last); empty-rows : typeOf (b .empty-rows); empty-rows-last : typeOf (b .empty-rows-last); fill-u16 : typeOf (b .fill-u16); fresh : typeOf (c .fresh) }
-after-fresh c = let b = after-fill-u16 (c .before .before .before) in record { args = b .args; start = b .start; lengths-fit = b .lengths-fit; if1 = b .if1; free-tasks = b .free-tasks; free-tasks-last = b .free-tasks-last; empty-rows = b .empty-rows; empty-rows-last = b .empty-rows-last; fill-u16 = b .fill-u16; fresh = c .fresh }
+abbrev pub after-fresh : (c : tie.After-fresh) → let b = after-empty-rows (c .before .before .before .before .before .before .before .before .before) in record { args : typeOf (b .args); start : typeOf (b .start); sizes-fit : typeOf (b .sizes-fit); if1 : typeOf (b .if1); free-tasks : typeOf (b .free-tasks); free-tasks-last : typeOf (b .free-tasks-last); empty-rows : typeOf (b .empty-rows); empty-rows-last : typeOf (b .empty-rows-last); fresh : typeOf (c .fresh) }
+after-fresh c = let b = after-empty-rows (c .before .before .before .before .before .before .before .before .before) in record { args = b .args; start = b .start; sizes-fit = b .sizes-fit; if1 = b .if1; free-tasks = b .free-tasks; free-tasks-last = b .free-tasks-last; empty-rows = b .empty-rows; empty-rows-last = b .empty-rows-last; fresh = c .fresh }
 
 abbrev pub returns : (c : tie.Then1) → typeOf (then1 c)
 returns c = then1 c
 
-abbrev pub fresh-requires : (c : tie.After-slice-known20) → typeOf (after-fill-u16 (c .before .before))
-fresh-requires c = after-fill-u16 (c .before .before)
+abbrev pub fresh-requires : (c : tie.After-slice-known20) → typeOf (after-empty-rows (c .before .before .before .before .before .before .before .before))
+fresh-requires c = after-empty-rows (c .before .before .before .before .before .before .before .before)
 
 abbrev pub returns-2 : (c : tie.After-fresh) → typeOf (after-fresh c)
 returns-2 c = after-fresh c
 
-pub close : {M : Type 1} → tie.Need-lengths-fit-requires → tie.Need-returns → tie.Need-free-tasks-requires → tie.Need-empty-rows-requires → tie.Need-fill-u16-requires → tie.Need-fresh-requires → tie.Need-returns-2 → statement M
-close a0 a1 a2 a3 a4 a5 a6 =
+pub close : {M : Type 1} → tie.Need-returns → tie.Need-fresh-requires → tie.Need-returns-2 → statement M
+close a0 a1 a2 =
     tie.close
     (tie.spec
+    sizes-fit-requires
     a0
+    free-tasks-requires
+    empty-rows-requires
     a1
-    a2
-    a3
-    a4
-    a5
     (λ c. returns-2 c .free-tasks .kept .0)
     (λ c. returns-2 c .free-tasks .kept .1 .0)
     (λ c. returns-2 c .free-tasks .kept .1 .1 .0)
@@ -60,5 +66,5 @@ close a0 a1 a2 a3 a4 a5 a6 =
     (λ c. returns-2 c .empty-rows .kept .0)
     (λ c. returns-2 c .empty-rows .kept .1 .0)
     (λ c. returns-2 c .empty-rows .kept .1 .1 .0)
-    (λ c. returns-2 c .fill-u16 .kept .0)
-    a6)
+    (λ c. returns-2 c .empty-rows .kept .1 .1 .1 .0)
+    a2)

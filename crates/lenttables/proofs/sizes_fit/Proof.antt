@@ -1,4 +1,4 @@
--- `checker::sizes::lengths_fit` meets its contract. Assumes nothing.
+-- `lenttables::sizes_fit` meets its contract. Assumes nothing.
 use mathlib.Core.Path.{sym, ap}
 use mathlib.Core.Bool.{Bool, _&&_}
 use Prim.Native.Nat.{_*_}
@@ -9,9 +9,9 @@ use Rattle.cpupri.specs.Found.{sizeFits}
 use Rattle.rules.specs.Machine.{taskPlaces}
 use Rattle.rules.specs.Tables.{logPlaces}
 use Rattle.rules.proofs.Test.{size-good}
-use Rattle.checker.specs.Lent.{sizesFit}
-use Rattle.checker.proofs.sizes.lengths_fit.Statement.{statement}
-use Rattle.checker.proofs.sizes.lengths_fit.Tie as tie
+use Rattle.lenttables.specs.Lent.{sizesFit}
+use Rattle.lenttables.proofs.sizes_fit.Statement.{statement}
+use Rattle.lenttables.proofs.sizes_fit.Tie as tie
 
 -- the tests behind that of N
 abbrev others : tie.Start → Bool → Bool
@@ -39,5 +39,5 @@ returns-2 c =
     let a = c .before .args in
     ap (others (c .before)) (sym (not-false (ltb 0 (a .n) && leb (a .n) 64) (c .if1 .left)))
 
-pub lengths-fit-spec : {M : Type 1} → statement M
-lengths-fit-spec = tie.close (tie.spec returns mul-result returns-2)
+pub sizes-fit-spec : {M : Type 1} → statement M
+sizes-fit-spec = tie.close (tie.spec returns mul-result returns-2)

@@ -1,4 +1,4 @@
--- What the caller lends, put together: the ten tables, and their lengths.
+-- The ten tables that a caller lends, put together, and their lengths.
 -- Assumes nothing.
 use mathlib.Core.Bool.{Bool, _&&_}
 use mathlib.Core.List.{List}
