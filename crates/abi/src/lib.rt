@@ -8,7 +8,7 @@ ghost use Rattle.rules.specs.Events.{effect, event as numbers};
 ghost use Rattle.rules.specs.LentDemand3.{LentDemand3};
 ghost use Rattle.rules.specs.Tables.{machineOf};
 ghost use Rattle.rules.specs.Entry.{result};
-ghost use Rattle.lentrecord.specs.Entry.{made, checked, handled, found, answer};
+ghost use Rattle.lentrecord.specs.Entry.{lentMade, lentChecked, lentHandled, lentFound, answer};
 use cpupri::find::Found;
 use lentrecord::lengths_fit;
 use lentrecord::read;
@@ -39,7 +39,7 @@ pub extern "C" fn qoriwesh_make_fresh(
         let q = newRecord «level_masks» «level_counts» «level_words» levels in
         let s = oldTables state policy prio cpu slice mask rows counts flags log in
         let t = newTables state policy prio cpu slice mask rows counts flags log in
-        ⌜ result a 0 q t ≡ made n r s ⌝ }
+        ⌜ result a 0 q t ≡ lentMade n r s ⌝ }
 {
     if !lengths_fit(
         level_masks.len(),
@@ -89,7 +89,7 @@ pub extern "C" fn qoriwesh_check(
     levels: &[u8],
 ) -> u8
     ensures { λ a. let r = oldRecord «level_masks» «level_counts» «level_words» levels in
-        ⌜ a ≡ checked n r (oldTables state policy prio cpu slice mask rows counts flags log) ⌝ }
+        ⌜ a ≡ lentChecked n r (oldTables state policy prio cpu slice mask rows counts flags log) ⌝ }
 {
     if !lengths_fit(
         level_masks.len(),
@@ -147,9 +147,9 @@ pub extern "C" fn qoriwesh_event(
         let s = oldTables state policy prio cpu slice mask rows counts flags log in
         let t = newTables state policy prio cpu slice mask rows counts flags log in
         let e = numbers kind who a b k in
-        ⌜ result o (new moves) q t ≡ handled n r s e ⌝
+        ⌜ result o (new moves) q t ≡ lentHandled n r s e ⌝
         ∗ ⌜ (o ≡ 0 → LentDemand3 n (new moves) (effect e (machineOf n s)) t) ⌝
-        ∗ ⌜ (o ≡ 0 → checked n q t ≡ 0) ⌝ }
+        ∗ ⌜ (o ≡ 0 → lentChecked n q t ≡ 0) ⌝ }
 {
     *moves = 0;
     if !lengths_fit(
@@ -200,7 +200,7 @@ pub extern "C" fn qoriwesh_find(
     found_mask: &mut u64,
 ) -> u8
     ensures { λ o. let r = oldRecord «level_masks» «level_counts» «level_words» levels in
-        ⌜ answer o (new «found_level») (new «found_mask») ≡ found n r level mask ⌝ }
+        ⌜ answer o (new «found_level») (new «found_mask») ≡ lentFound n r level mask ⌝ }
 {
     if !lengths_fit(
         level_masks.len(),

@@ -11,8 +11,8 @@ use Rattle.rules.specs.Entry.{result}
 use Rattle.rules.specs.Events.{Event}
 use Rattle.rules.specs.Refusals.{badSize}
 use Rattle.rules.specs.Tables.{Tables}
-use Rattle.lentrecord.specs.Lent.{fits}
-use Rattle.lentrecord.specs.Entry.{made, checked, handled, found}
+use Rattle.lentrecord.specs.Lent.{lentFits}
+use Rattle.lentrecord.specs.Entry.{lentMade, lentChecked, lentHandled, lentFound}
 
 module _ {A : Type 0} {b : Bool} (x y : A) where
   at-true : b ≡ true → cond b x y ≡ x
@@ -23,46 +23,46 @@ module _ {A : Type 0} {b : Bool} (x y : A) where
 
 -- ---- one of the four has another length
 
-pub made-unfit : (n : ℕ) (r : Record) (s : Tables) → fits r ≡ false → result badSize 0 r s ≡ made n r s
-unfolding made
+pub made-unfit : (n : ℕ) (r : Record) (s : Tables) → lentFits r ≡ false → result badSize 0 r s ≡ lentMade n r s
+unfolding lentMade
 made-unfit n r s h = sym (at-false (entry.made n r s) (entry.kept badSize r s) h)
 
-pub checked-unfit : (n : ℕ) (r : Record) (s : Tables) → fits r ≡ false → badSize ≡ checked n r s
-unfolding checked
+pub checked-unfit : (n : ℕ) (r : Record) (s : Tables) → lentFits r ≡ false → badSize ≡ lentChecked n r s
+unfolding lentChecked
 checked-unfit n r s h = sym (at-false (entry.checked n r s) badSize h)
 
-pub handled-unfit : (n : ℕ) (r : Record) (s : Tables) (e : Event) → fits r ≡ false → result badSize 0 r s ≡ handled n r s e
-unfolding handled
+pub handled-unfit : (n : ℕ) (r : Record) (s : Tables) (e : Event) → lentFits r ≡ false → result badSize 0 r s ≡ lentHandled n r s e
+unfolding lentHandled
 handled-unfit n r s e h = sym (at-false (entry.handled n r s e) (entry.kept badSize r s) h)
 
-pub found-unfit : (n : ℕ) (r : Record) (level mask : ℕ) → fits r ≡ false → finder.without badSize ≡ found n r level mask
-unfolding found
+pub found-unfit : (n : ℕ) (r : Record) (level mask : ℕ) → lentFits r ≡ false → finder.without badSize ≡ lentFound n r level mask
+unfolding lentFound
 found-unfit n r level mask h = sym (at-false (finder.found n r level mask) (finder.without badSize) h)
 
 -- ---- all four fit: r is what was lent, q what was read, t what came back, u what was written
 
-pub made-fit : (n a : ℕ) (r q t u : Record) (s z : Tables) → fits r ≡ true → q ≡ r → result a 0 t z ≡ entry.made n q s → u ≡ t → result a 0 u z ≡ made n r s
-unfolding made
+pub made-fit : (n a : ℕ) (r q t u : Record) (s z : Tables) → lentFits r ≡ true → q ≡ r → result a 0 t z ≡ entry.made n q s → u ≡ t → result a 0 u z ≡ lentMade n r s
+unfolding lentMade
 made-fit n a r q t u s z h read same written =
     ap (λ (x : Record). result a 0 x z) written ∙ same ∙ ap (λ (x : Record). entry.made n x s) read ∙ sym (at-true (entry.made n r s) (entry.kept badSize r s) h)
 
-pub checked-fit : (n a : ℕ) (r q : Record) (s : Tables) → fits r ≡ true → q ≡ r → a ≡ entry.checked n q s → a ≡ checked n r s
-unfolding checked
+pub checked-fit : (n a : ℕ) (r q : Record) (s : Tables) → lentFits r ≡ true → q ≡ r → a ≡ entry.checked n q s → a ≡ lentChecked n r s
+unfolding lentChecked
 checked-fit n a r q s h read same = same ∙ ap (λ (x : Record). entry.checked n x s) read ∙ sym (at-true (entry.checked n r s) badSize h)
 
-pub handled-fit : (n a k : ℕ) (r q t u : Record) (s z : Tables) (e : Event) → fits r ≡ true → q ≡ r → result a k t z ≡ entry.handled n q s e → u ≡ t
-    → result a k u z ≡ handled n r s e
-unfolding handled
+pub handled-fit : (n a k : ℕ) (r q t u : Record) (s z : Tables) (e : Event) → lentFits r ≡ true → q ≡ r → result a k t z ≡ entry.handled n q s e → u ≡ t
+    → result a k u z ≡ lentHandled n r s e
+unfolding lentHandled
 handled-fit n a k r q t u s z e h read same written =
     ap (λ (x : Record). result a k x z) written ∙ same ∙ ap (λ (x : Record). entry.handled n x s e) read ∙ sym (at-true (entry.handled n r s e) (entry.kept badSize r s) h)
 
-pub found-fit : (n : ℕ) (r q : Record) (level mask : ℕ) (a : finder.Answer) → fits r ≡ true → q ≡ r → a ≡ finder.found n q level mask → a ≡ found n r level mask
-unfolding found
+pub found-fit : (n : ℕ) (r q : Record) (level mask : ℕ) (a : finder.Answer) → lentFits r ≡ true → q ≡ r → a ≡ finder.found n q level mask → a ≡ lentFound n r level mask
+unfolding lentFound
 found-fit n r q level mask a h read same =
     same ∙ ap (λ (x : Record). finder.found n x level mask) read ∙ sym (at-true (finder.found n r level mask) (finder.without badSize) h)
 
 -- what comes back accepted passes the check again
-pub checked-again : (n : ℕ) (u t : Record) (z : Tables) → fits u ≡ true → u ≡ t → entry.checked n t z ≡ 0 → checked n u z ≡ 0
+pub checked-again : (n : ℕ) (u t : Record) (z : Tables) → lentFits u ≡ true → u ≡ t → entry.checked n t z ≡ 0 → lentChecked n u z ≡ 0
 checked-again n u t z h written zero = sym (checked-fit n 0 u t z h (sym written) (sym zero))
 
 pub refused : badSize ≡ 0 → ⊥

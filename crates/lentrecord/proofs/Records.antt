@@ -8,7 +8,7 @@ use lib.Dec.{eqb}
 use borrow.Author.Tests.{eqb-true}
 use Rattle.bits.proofs.Tests.{and-left, and-right}
 use Rattle.cpupri.specs.Level.{levelCount, wordCount, cpuPlaces}
-use Rattle.lentrecord.specs.Lent.{lentRecord, recordFits}
+use Rattle.lentrecord.specs.Lent.{lentRecord, recordLengthsFit}
 
 pub record Sized (m c w l : ℕ) : Type 0 where
   pub masks : m ≡ levelCount
@@ -16,8 +16,8 @@ pub record Sized (m c w l : ℕ) : Type 0 where
   pub words : w ≡ wordCount
   pub levels : l ≡ cpuPlaces
 
-pub sized : (masks counts words levels : ℕ) → recordFits masks counts words levels ≡ true → Sized masks counts words levels
-unfolding recordFits
+pub sized : (masks counts words levels : ℕ) → recordLengthsFit masks counts words levels ≡ true → Sized masks counts words levels
+unfolding recordLengthsFit
 sized m c w l h =
     let a = eqb m levelCount in
     let b = eqb c levelCount in
@@ -37,6 +37,6 @@ same-record {m} {m'} {c} {c'} {w} {w'} {l} {l'} p q r s =
     ap (λ (x : List ℕ). lentRecord x c w l) p ∙ ap (λ (x : List ℕ). lentRecord m' x w l) q ∙ ap (λ (x : List ℕ). lentRecord m' c' x l) r ∙ ap (λ (x : List ℕ). lentRecord m' c' w' x) s
 
 -- tables of the same lengths fit too
-pub fits-again : {m m' c c' w w' l l' : ℕ} → m' ≡ m → c' ≡ c → w' ≡ w → l' ≡ l → recordFits m c w l ≡ true → recordFits m' c' w' l' ≡ true
+pub fits-again : {m m' c c' w w' l l' : ℕ} → m' ≡ m → c' ≡ c → w' ≡ w → l' ≡ l → recordLengthsFit m c w l ≡ true → recordLengthsFit m' c' w' l' ≡ true
 fits-again {m} {m'} {c} {c'} {w} {w'} {l} {l'} p q r s h =
-    ap (λ (x : ℕ). recordFits x c' w' l') p ∙ ap (λ (x : ℕ). recordFits m x w' l') q ∙ ap (λ (x : ℕ). recordFits m c x l') r ∙ ap (λ (x : ℕ). recordFits m c w x) s ∙ h
+    ap (λ (x : ℕ). recordLengthsFit x c' w' l') p ∙ ap (λ (x : ℕ). recordLengthsFit m x w' l') q ∙ ap (λ (x : ℕ). recordLengthsFit m c x l') r ∙ ap (λ (x : ℕ). recordLengthsFit m c w x) s ∙ h

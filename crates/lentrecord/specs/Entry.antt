@@ -8,7 +8,7 @@ use Rattle.rules.specs.Entry as entry
 use Rattle.rules.specs.Events.{Event}
 use Rattle.rules.specs.Refusals.{badSize}
 use Rattle.rules.specs.Tables.{Tables}
-use Rattle.lentrecord.specs.Lent.{fits}
+use Rattle.lentrecord.specs.Lent.{lentFits}
 
 -- what the finder answers, put together
 abbrev pub answer : ℕ → ℕ → ℕ → finder.Answer
@@ -16,14 +16,14 @@ answer number level mask = record { number = number; level = level; mask = mask 
 
 -- ---- the entries
 
-unfoldable pub made : ℕ → Record → Tables → entry.Result
-made n r s = cond (fits r) (entry.made n r s) (entry.kept badSize r s)
+unfoldable pub lentMade : ℕ → Record → Tables → entry.Result
+lentMade n r s = cond (lentFits r) (entry.made n r s) (entry.kept badSize r s)
 
-unfoldable pub checked : ℕ → Record → Tables → ℕ
-checked n r s = cond (fits r) (entry.checked n r s) badSize
+unfoldable pub lentChecked : ℕ → Record → Tables → ℕ
+lentChecked n r s = cond (lentFits r) (entry.checked n r s) badSize
 
-unfoldable pub handled : ℕ → Record → Tables → Event → entry.Result
-handled n r s e = cond (fits r) (entry.handled n r s e) (entry.kept badSize r s)
+unfoldable pub lentHandled : ℕ → Record → Tables → Event → entry.Result
+lentHandled n r s e = cond (lentFits r) (entry.handled n r s e) (entry.kept badSize r s)
 
-unfoldable pub found : ℕ → Record → ℕ → ℕ → finder.Answer
-found n r level mask = cond (fits r) (finder.found n r level mask) (finder.without badSize)
+unfoldable pub lentFound : ℕ → Record → ℕ → ℕ → finder.Answer
+lentFound n r level mask = cond (lentFits r) (finder.found n r level mask) (finder.without badSize)

@@ -9,8 +9,8 @@ use Rattle.levels.specs.declared.record.Record.{Record}
 pub use Rattle.cpupri.specs.Record.{lentRecord}
 
 -- tables of these lengths can hold a record
-unfoldable pub recordFits : ℕ → ℕ → ℕ → ℕ → Bool
-recordFits masks counts words levels = eqb masks levelCount && eqb counts levelCount && eqb words wordCount && eqb levels cpuPlaces
+unfoldable pub recordLengthsFit : ℕ → ℕ → ℕ → ℕ → Bool
+recordLengthsFit masks counts words levels = eqb masks levelCount && eqb counts levelCount && eqb words wordCount && eqb levels cpuPlaces
 
-abbrev pub fits : Record → Bool
-fits r = recordFits (length (r .masks)) (length (r .counts)) (length (r .words)) (length (r .levels))
+abbrev pub lentFits : Record → Bool
+lentFits r = recordLengthsFit (length (r .masks)) (length (r .counts)) (length (r .words)) (length (r .levels))

@@ -6,7 +6,7 @@ ghost use Rattle.bits.specs.Moments.{new};
 ghost use Rattle.levels.specs.Lent.{oldRecord, newRecord};
 ghost use Rattle.cpupri.specs.Found.{answerOf};
 ghost use Rattle.lentrecord.specs.Entry.{answer};
-ghost use Rattle.lentrecord.specs.Lent.{recordFits};
+ghost use Rattle.lentrecord.specs.Lent.{recordLengthsFit};
 use copy::copy_u8;
 use copy::copy_u64;
 use cpupri::find::Found;
@@ -20,14 +20,14 @@ mod copy;
 
 // Whether the four tables have the record's lengths.
 pub fn lengths_fit(masks: usize, counts: usize, words: usize, levels: usize) -> bool
-    ensures { λ b. ⌜ b ≡ recordFits masks counts words levels ⌝ }
+    ensures { λ b. ⌜ b ≡ recordLengthsFit masks counts words levels ⌝ }
 {
     (masks == LEVELS) & (counts == LEVELS) & (words == WORDS) & (levels == CPUS)
 }
 
 // The record that the four tables hold.
 pub fn read(masks: &[u64], counts: &[u8], words: &[u64], levels: &[u8]) -> Record
-    requires { ⌜ recordFits (length (now masks)) (length (now counts)) (length (now words)) (length (now levels)) ≡ true ⌝ }
+    requires { ⌜ recordLengthsFit (length (now masks)) (length (now counts)) (length (now words)) (length (now levels)) ≡ true ⌝ }
     ensures { λ r. ⌜ r ≡ oldRecord masks counts words levels ⌝ }
 {
     let mut m = [0u64; LEVELS];
@@ -54,7 +54,7 @@ pub fn write(
     words: &mut [u64],
     levels: &mut [u8],
 )
-    requires { ⌜ recordFits (length (now masks)) (length (now counts)) (length (now words)) (length (now levels)) ≡ true ⌝ }
+    requires { ⌜ recordLengthsFit (length (now masks)) (length (now counts)) (length (now words)) (length (now levels)) ≡ true ⌝ }
     ensures { λ u. ⌜ newRecord masks counts words levels ≡ «record» ⌝ }
 {
     copy_u64(&record.masks, masks);

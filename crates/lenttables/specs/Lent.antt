@@ -10,21 +10,7 @@ use Rattle.levels.specs.Lent.{Table}
 use Rattle.cpupri.specs.Found.{sizeFits}
 use Rattle.rules.specs.Machine.{taskPlaces}
 use Rattle.rules.specs.Tables.{Tables, logPlaces}
-
-abbrev pub lent : List ℕ → List ℕ → List ℕ → List ℕ → List ℕ → List ℕ → List ℕ → List ℕ → List ℕ → List ℕ → Tables
-lent state policy prio cpu slice mask rows counts flags log =
-    record {
-      state = state;
-      policy = policy;
-      prio = prio;
-      cpu = cpu;
-      slice = slice;
-      mask = mask;
-      rows = rows;
-      counts = counts;
-      flags = flags;
-      log = log;
-    }
+pub use Rattle.rules.specs.Tables.{lent}
 
 -- the ten tables behind the caller's references, for contracts: in a `requires`
 abbrev pub nowTables : Table → Table → Table → Table → Table → Table → Table → Table → Table → Table → Tables

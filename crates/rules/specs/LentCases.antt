@@ -10,7 +10,7 @@ use Rattle.levels.specs.declared.record.Record.{Record}
 use Rattle.rules.specs.Machine.{Column}
 use Rattle.rules.specs.Events.{Event, event}
 use Rattle.rules.specs.Cases.{tick}
-use Rattle.rules.specs.Tables.{Tables}
+use Rattle.rules.specs.Tables.{Tables, lent}
 use Rattle.rules.specs.Entry.{Result, result, checked, made, handled}
 
 -- ---- calls
@@ -42,30 +42,25 @@ answers a f n r s = record { call = f; n = n; cpupri = r; tables = s; expected =
 
 -- ---- tables
 
--- columns state, policy, priority, CPU, slice, mask; rows, their counts; flags; log
-abbrev pub lend : List ℕ → List ℕ → List ℕ → List ℕ → List ℕ → List ℕ → List ℕ → List ℕ → List ℕ → List ℕ → Tables
-lend ss ps qs cs ls ks rs ns fs log =
-    record { state = ss; policy = ps; prio = qs; cpu = cs; slice = ls; mask = ks; rows = rs; counts = ns; flags = fs; log = log }
-
 abbrev pub inColumn : Column → (List ℕ → List ℕ) → Tables → Tables
-inColumn Column.state f s = lend (f (s .state)) (s .policy) (s .prio) (s .cpu) (s .slice) (s .mask) (s .rows) (s .counts) (s .flags) (s .log)
-inColumn Column.policy f s = lend (s .state) (f (s .policy)) (s .prio) (s .cpu) (s .slice) (s .mask) (s .rows) (s .counts) (s .flags) (s .log)
-inColumn Column.prio f s = lend (s .state) (s .policy) (f (s .prio)) (s .cpu) (s .slice) (s .mask) (s .rows) (s .counts) (s .flags) (s .log)
-inColumn Column.cpu f s = lend (s .state) (s .policy) (s .prio) (f (s .cpu)) (s .slice) (s .mask) (s .rows) (s .counts) (s .flags) (s .log)
-inColumn Column.slice f s = lend (s .state) (s .policy) (s .prio) (s .cpu) (f (s .slice)) (s .mask) (s .rows) (s .counts) (s .flags) (s .log)
-inColumn Column.mask f s = lend (s .state) (s .policy) (s .prio) (s .cpu) (s .slice) (f (s .mask)) (s .rows) (s .counts) (s .flags) (s .log)
+inColumn Column.state f s = lent (f (s .state)) (s .policy) (s .prio) (s .cpu) (s .slice) (s .mask) (s .rows) (s .counts) (s .flags) (s .log)
+inColumn Column.policy f s = lent (s .state) (f (s .policy)) (s .prio) (s .cpu) (s .slice) (s .mask) (s .rows) (s .counts) (s .flags) (s .log)
+inColumn Column.prio f s = lent (s .state) (s .policy) (f (s .prio)) (s .cpu) (s .slice) (s .mask) (s .rows) (s .counts) (s .flags) (s .log)
+inColumn Column.cpu f s = lent (s .state) (s .policy) (s .prio) (f (s .cpu)) (s .slice) (s .mask) (s .rows) (s .counts) (s .flags) (s .log)
+inColumn Column.slice f s = lent (s .state) (s .policy) (s .prio) (s .cpu) (f (s .slice)) (s .mask) (s .rows) (s .counts) (s .flags) (s .log)
+inColumn Column.mask f s = lent (s .state) (s .policy) (s .prio) (s .cpu) (s .slice) (f (s .mask)) (s .rows) (s .counts) (s .flags) (s .log)
 
 abbrev pub withEntry : Column → ℕ → ℕ → Tables → Tables
 withEntry k t v s = inColumn k (λ xs. set xs t v) s
 
 abbrev pub withRows : List ℕ → List ℕ → Tables → Tables
-withRows rs ns s = lend (s .state) (s .policy) (s .prio) (s .cpu) (s .slice) (s .mask) rs ns (s .flags) (s .log)
+withRows rs ns s = lent (s .state) (s .policy) (s .prio) (s .cpu) (s .slice) (s .mask) rs ns (s .flags) (s .log)
 
 abbrev pub withFlags : List ℕ → Tables → Tables
-withFlags fs s = lend (s .state) (s .policy) (s .prio) (s .cpu) (s .slice) (s .mask) (s .rows) (s .counts) fs (s .log)
+withFlags fs s = lent (s .state) (s .policy) (s .prio) (s .cpu) (s .slice) (s .mask) (s .rows) (s .counts) fs (s .log)
 
 abbrev pub withLog : List ℕ → Tables → Tables
-withLog log s = lend (s .state) (s .policy) (s .prio) (s .cpu) (s .slice) (s .mask) (s .rows) (s .counts) (s .flags) log
+withLog log s = lent (s .state) (s .policy) (s .prio) (s .cpu) (s .slice) (s .mask) (s .rows) (s .counts) (s .flags) log
 
 -- ---- a well-formed machine of two CPUs
 -- Task 0 runs on CPU 0 and task 1, its equal, waits there; CPU 1 has ordinary work, and task 1 could use it: "A machine need not be settled (no
@@ -74,7 +69,7 @@ withLog log s = lend (s .state) (s .policy) (s .prio) (s .cpu) (s .slice) (s .ma
 
 abbrev pub lent2 : Tables
 lent2 =
-    lend (2 ∷ 2 ∷ 1 ∷ replicate 509 0) (1 ∷ 2 ∷ 1 ∷ replicate 509 0) (99 ∷ 99 ∷ 1 ∷ replicate 509 0) (0 ∷ 0 ∷ 1 ∷ replicate 509 0)
+    lent (2 ∷ 2 ∷ 1 ∷ replicate 509 0) (1 ∷ 2 ∷ 1 ∷ replicate 509 0) (99 ∷ 99 ∷ 1 ∷ replicate 509 0) (0 ∷ 0 ∷ 1 ∷ replicate 509 0)
     (100 ∷ 1 ∷ 50 ∷ replicate 509 0) (1 ∷ 3 ∷ 1 ∷ replicate 509 0) (0 ∷ 1 ∷ replicate 1022 65535) (2 ∷ 0 ∷ []) (0 ∷ 1 ∷ []) (replicate 189 4)
 
 -- CPU 0 is at level 101, bit 37 of word 1, and CPU 1 at level 1
@@ -152,7 +147,7 @@ w6 =
 abbrev pub dirty : ℕ → Tables
 dirty n =
     let column : List ℕ = replicate 512 7 in
-    lend column column column column column column (replicate (512 * n) 3) (replicate n 9) (replicate n 5) (replicate 189 4)
+    lent column column column column column column (replicate (512 * n) 3) (replicate n 9) (replicate n 5) (replicate 189 4)
 
 abbrev pub noRecord : Record
 noRecord = lentRecord [] [] [] []
@@ -190,7 +185,7 @@ freshMade =
       cpupri = noRecord;
       tables = dirty 2;
       expected = result 0 0 (lentRecord (3 ∷ replicate 101 0) (2 ∷ replicate 101 0) (1 ∷ 0 ∷ []) (0 ∷ 0 ∷ replicate 62 255))
-          (lend zeros zeros zeros zeros zeros zeros (replicate 1024 65535) (0 ∷ 0 ∷ []) (0 ∷ 0 ∷ []) (replicate 189 65535));
+          (lent zeros zeros zeros zeros zeros zeros (replicate 1024 65535) (0 ∷ 0 ∷ []) (0 ∷ 0 ∷ []) (replicate 189 65535));
     }
     ∷ []
 
@@ -208,7 +203,7 @@ handledMove =
       cpupri = record2;
       tables = lent2;
       expected = result 0 1 (lentRecord (replicate 101 0 ++ 3 ∷ []) (replicate 101 0 ++ 2 ∷ []) (0 ∷ 2 ^ 37 ∷ []) (101 ∷ 101 ∷ replicate 62 255))
-          (lend (lent2 .state) (lent2 .policy) (lent2 .prio) (0 ∷ 1 ∷ 1 ∷ replicate 509 0) (lent2 .slice) (lent2 .mask)
+          (lent (lent2 .state) (lent2 .policy) (lent2 .prio) (0 ∷ 1 ∷ 1 ∷ replicate 509 0) (lent2 .slice) (lent2 .mask)
           (0 ∷ replicate 511 65535 ++ 1 ∷ replicate 511 65535) (1 ∷ 1 ∷ []) (0 ∷ 1 ∷ []) (1 ∷ 0 ∷ 1 ∷ replicate 186 4));
     }
     ∷ []

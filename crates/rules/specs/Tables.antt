@@ -34,6 +34,11 @@ pub record Tables : Type 0 where
   pub flags : List ℕ
   pub log : List ℕ
 
+-- put together, in that order
+abbrev pub lent : List ℕ → List ℕ → List ℕ → List ℕ → List ℕ → List ℕ → List ℕ → List ℕ → List ℕ → List ℕ → Tables
+lent ss ps qs cs ls ks rs ns fs log =
+    record { state = ss; policy = ps; prio = qs; cpu = cs; slice = ls; mask = ks; rows = rs; counts = ns; flags = fs; log = log }
+
 -- ---- rows
 
 -- the run queues: of the 512 places of each row as many as its count says
