@@ -8,10 +8,10 @@ use Rattle.cpupri.specs.Record.{recordOf}
 use Rattle.levels.specs.declared.record.Record.{Record}
 use Rattle.rules.specs.Machine.{Machine, levels, withFlag}
 use Rattle.rules.specs.Plan.{carried}
-use Rattle.kinds.specs.Decided.{asPlan, did}
-use Rattle.kinds.specs.declared.plan.Plan.{Plan as Written}
-use Rattle.kinds.specs.declared.plan.Decision.{Decision}
-use Rattle.kinds.specs.declared.plan.Decision.the-variants.{Refused, Nothing, Place, Flag}
+use Rattle.plans.specs.Decided.{asPlan, did}
+use Rattle.plans.specs.declared.plan.Plan.{Plan as Written}
+use Rattle.plans.specs.declared.plan.Decision.{Decision}
+use Rattle.plans.specs.declared.plan.Decision.the-variants.{Refused, Nothing, Place, Flag}
 use Rattle.carrying.specs.Holds.{Holds, Ready, Carriable, Placeable, Flagging}
 
 module _ {m : Machine} {ss ps qs cs ls ks flat ns fs : List ℕ} {r : Record} {d : Decision} (l : Carriable m ss ps qs cs ls ks flat ns fs r d) where

@@ -14,9 +14,9 @@ use Rattle.rules.specs.Plan.{Plan, When, Doable}
 use Rattle.rules.specs.Tables.{flatOf, rowCounts}
 use Rattle.rules.specs.WellFormed.{WellFormed}
 use Rattle.placement.specs.Held.{Queues, Following}
-use Rattle.kinds.specs.Decided.{asPlan}
-use Rattle.kinds.specs.declared.plan.Decision.{Decision}
-use Rattle.kinds.specs.declared.plan.Decision.the-variants.{Refused, Nothing, Place, Flag}
+use Rattle.plans.specs.Decided.{asPlan}
+use Rattle.plans.specs.declared.plan.Decision.{Decision}
+use Rattle.plans.specs.declared.plan.Decision.the-variants.{Refused, Nothing, Place, Flag}
 
 pub record Sized (ss ps qs cs ls ks : List ℕ) : Type 0 where
   pub state : length ss ≡ taskPlaces

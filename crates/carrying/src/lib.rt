@@ -10,14 +10,14 @@ ghost use Rattle.levels.specs.Lent.{nowRecord, oldRecord, newRecord};
 ghost use Rattle.rules.specs.Machine.{Machine, taskPlaces, levels as levelsOf, withFlag, enqueue, dequeue};
 ghost use Rattle.rules.specs.Plan.{carried};
 ghost use Rattle.placement.specs.Held.{Queues, followed};
-ghost use Rattle.kinds.specs.Decided.{asPlan, did};
+ghost use Rattle.plans.specs.Decided.{asPlan, did};
 ghost use Rattle.carrying.specs.Holds.{Sized, Holds, Carriable, Placeable, LeavingIf, EnteringIf, FollowingIf, Flagging};
 use cpupri::record::CPUS;
 use cpupri::record::LEVELS;
 use cpupri::record::WORDS;
-use kinds::plan::Decision;
-use kinds::plan::Plan;
-use kinds::plan::Task;
+use plans::plan::Decision;
+use plans::plan::Plan;
+use plans::plan::Task;
 
 pub fn carry_out(
     state: &mut [u8],

@@ -13,11 +13,11 @@ use Rattle.rules.specs.Events.{Event, Kind, kindOf, byKind, effectOf}
 use Rattle.rules.specs.Refusals.{firstFailing, noKind, checks, unknownKind}
 use Rattle.rules.proofs.Lists.{same?}
 use Rattle.rules.proofs.Checks.{no-kind}
-use Rattle.kinds.specs.Decided.{asTask, firstOf, Named, Runs, Decided, DecidedAs}
+use Rattle.plans.specs.Decided.{asTask, firstOf, Named, Runs, Decided, DecidedAs}
 use Rattle.deciding.specs.Subject.{entries, subjectOf, Lent, Decides}
-use Rattle.kinds.specs.declared.plan.Task.{Task as Columns}
-use Rattle.kinds.specs.declared.plan.Decision.{Decision}
-use Rattle.kinds.specs.declared.plan.Decision.the-variants.{Refused}
+use Rattle.plans.specs.declared.plan.Task.{Task as Columns}
+use Rattle.plans.specs.declared.plan.Decision.{Decision}
+use Rattle.plans.specs.declared.plan.Decision.the-variants.{Refused}
 
 -- ---- kinds by their numbers
 

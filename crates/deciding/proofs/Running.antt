@@ -18,7 +18,7 @@ use Rattle.runqueue.specs.Table.{HoldsRows, rowAt}
 use Rattle.runqueue.proofs.Flat.{count-is, first-place, rows-fit}
 use Rattle.placement.specs.Held.{Held}
 use Rattle.placement.proofs.Order.{well-formed-order, holds, read-row, cpus-counted}
-use Rattle.kinds.specs.Decided.{firstOf}
+use Rattle.plans.specs.Decided.{firstOf}
 use Rattle.deciding.specs.Subject.{LentRows}
 
 module _ {m : Machine} {n : ℕ} {flat ns : List ℕ} (l : LentRows m n flat ns) where

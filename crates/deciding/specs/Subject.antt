@@ -11,8 +11,8 @@ use Rattle.rules.specs.Tables.{flatOf, rowCounts}
 use Rattle.rules.specs.WellFormed.{WellFormed}
 use Rattle.rules.specs.Events.{Event, effect}
 use Rattle.rules.specs.Refusals.{refusal}
-use Rattle.kinds.specs.Decided.{firstOf, Decided}
-use Rattle.kinds.specs.declared.plan.Decision.{Decision}
+use Rattle.plans.specs.Decided.{firstOf, Decided}
+use Rattle.plans.specs.declared.plan.Decision.{Decision}
 
 -- kinds up to this one name a task, later ones a CPU
 abbrev pub lastTaskKind : ℕ

@@ -6,7 +6,7 @@ ghost use Rattle.deciding.specs.Subject.{Lent, Decides};
 
 pub mod read;
 
-use kinds::plan::Decision;
+use plans::plan::Decision;
 use rules::answer::UNKNOWN_KIND;
 
 // `at` is the task that the event is about: `read::subject`.
@@ -33,15 +33,15 @@ pub fn decide(
 {
     let task = read::task_at(state, policy, prio, cpu, slice, mask, at);
     match kind {
-        1 => kinds::add(n, task, who, a, b, k),
-        2 => kinds::remove(task, who),
-        3 => kinds::wake(task, who),
-        4 => kinds::sleep(task, who),
-        5 => kinds::set_priority(task, who, b),
-        6 => kinds::set_affinity(n, task, who, k),
-        7 => kinds::tick(n, at, task, who),
-        8 => kinds::yield_cpu(n, at, task, who),
-        9 => kinds::set_ordinary(n, who, b),
+        1 => lifecycle::add(n, task, who, a, b, k),
+        2 => lifecycle::remove(task, who),
+        3 => lifecycle::wake(task, who),
+        4 => lifecycle::sleep(task, who),
+        5 => change::set_priority(task, who, b),
+        6 => change::set_affinity(n, task, who, k),
+        7 => percpu::tick(n, at, task, who),
+        8 => percpu::yield_cpu(n, at, task, who),
+        9 => percpu::set_ordinary(n, who, b),
         _ => Decision::Refused(UNKNOWN_KIND),
     }
 }

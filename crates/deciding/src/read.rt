@@ -3,9 +3,9 @@ ghost use mathlib.Core.Path.{_≡_};
 ghost use lib.ListN.{length};
 ghost use Rattle.rules.specs.Machine.{Machine, taskPlaces, row};
 ghost use Rattle.bits.specs.Moments.{old};
-ghost use Rattle.kinds.specs.Decided.{asTask, firstOf};
+ghost use Rattle.plans.specs.Decided.{asTask, firstOf};
 ghost use Rattle.deciding.specs.Subject.{entries, subjectOf, LentRows};
-use kinds::plan::Task;
+use plans::plan::Task;
 use runqueue::row::NOTHING;
 use runqueue::row::PLACES;
 

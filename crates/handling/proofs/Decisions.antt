@@ -11,11 +11,11 @@ use native.Mathlib.Omega.{arith}
 use Rattle.rules.specs.Machine.{Machine}
 use Rattle.rules.specs.Events.{Event, effect}
 use Rattle.rules.specs.Refusals.{refusal}
-use Rattle.kinds.specs.Decided.{did}
+use Rattle.plans.specs.Decided.{did}
 use Rattle.deciding.specs.Subject.{Decides}
-use Rattle.kinds.proofs.plan.Decision.{the-type}
-use Rattle.kinds.specs.declared.plan.Decision.{Decision}
-use Rattle.kinds.specs.declared.plan.Decision.the-variants.{Refused, Nothing, Place, Flag}
+use Rattle.plans.proofs.plan.Decision.{the-type}
+use Rattle.plans.specs.declared.plan.Decision.{Decision}
+use Rattle.plans.specs.declared.plan.Decision.the-variants.{Refused, Nothing, Place, Flag}
 use Rattle.carrying.specs.Holds.{Ready}
 
 abbrev pub accepted : Decision → Bool

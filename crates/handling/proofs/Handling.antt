@@ -23,10 +23,10 @@ use Rattle.rules.proofs.Tables.{write-read, stored-test}
 use Rattle.rules.proofs.Entry.{checked-good, good-checked, answer-checked, answer-event, handled-answer, handled-refused, handled-accepted, handled-good, start-n}
 use Rattle.rules.proofs.LentDemand3.{handled-lent}
 use Rattle.lenttables.specs.Lent.{lent}
-use Rattle.kinds.specs.Decided.{did}
+use Rattle.plans.specs.Decided.{did}
 use Rattle.deciding.specs.Subject.{subjectOf, Lent, LentRows, Decides}
-use Rattle.kinds.specs.declared.plan.Decision.{Decision}
-use Rattle.kinds.specs.declared.plan.Decision.the-variants.{Refused}
+use Rattle.plans.specs.declared.plan.Decision.{Decision}
+use Rattle.plans.specs.declared.plan.Decision.the-variants.{Refused}
 use Rattle.carrying.specs.Holds.{Holds, Carriable}
 use Rattle.handling.proofs.Decisions.{accepted, ready, refused, taken}
 use Rattle.placement.proofs.Order.{well-formed-order}

@@ -10,8 +10,8 @@ use cpupri::record::LEVELS;
 use cpupri::record::WORDS;
 use deciding::decide;
 use deciding::read::subject;
-use kinds::plan::Decision;
 use migration::settle::settle;
+use plans::plan::Decision;
 
 // The answer to an event: 0 and the number of moves, or a refusal with 0 moves, which changes nothing.
 pub struct Handled {

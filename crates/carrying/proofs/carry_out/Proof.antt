@@ -2,8 +2,8 @@
 -- Assumes nothing.
 use borrow.Author.Needs.{needs}
 use mathlib.Core.Path.{ap}
-use Rattle.kinds.specs.declared.plan.Decision.{Decision}
-use Rattle.kinds.specs.Decided.{did}
+use Rattle.plans.specs.declared.plan.Decision.{Decision}
+use Rattle.plans.specs.Decided.{did}
 use Rattle.carrying.proofs.Carrying.{placeable, flagging, flag-set, untouched, by-plan}
 use Rattle.carrying.proofs.carry_out.Statement.{statement}
 use Rattle.carrying.proofs.carry_out.Tie as tie

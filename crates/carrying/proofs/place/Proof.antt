@@ -4,7 +4,7 @@ use borrow.Author.Needs.{needs}
 use mathlib.Core.Path.{sym, subst}
 use Rattle.cpupri.specs.Record.{Whole}
 use Rattle.rules.specs.Plan.{left, wrote, carried}
-use Rattle.kinds.specs.Decided.{asPlan}
+use Rattle.plans.specs.Decided.{asPlan}
 use Rattle.carrying.proofs.Placing.{leaves, sized, still-sized, whole, enters, follows-origin, follows-target, placed}
 use Rattle.carrying.proofs.Optional.{still-whole-if}
 use Rattle.carrying.proofs.place.Statement.{statement}

@@ -5,7 +5,7 @@ use mathlib.Core.Path.{sym, ap, _∙_}
 use mathlib.Core.Bool.{Bool, cond}
 use borrow.Author.Tests.{le-leb, lt-leb}
 use Rattle.rules.specs.Machine.{row}
-use Rattle.kinds.specs.Decided.{firstOf}
+use Rattle.plans.specs.Decided.{firstOf}
 use Rattle.deciding.specs.Subject.{lastTaskKind}
 use Rattle.deciding.proofs.read.subject.Statement.{statement}
 use Rattle.deciding.proofs.read.subject.Tie as tie

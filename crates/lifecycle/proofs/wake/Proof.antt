@@ -1,0 +1,59 @@
+-- `lifecycle::wake` meets its contract.
+-- Assumes nothing.
+use borrow.Author.Needs.{needs}
+use mathlib.Core.Path.{ap, _∙_}
+use mathlib.Core.Bool.{not}
+use native.Mathlib.Nat.{suc-ne-zero}
+use native.Mathlib.Omega.{arith}
+use borrow.Author.Tests.{le-leb, lt-leb}
+use Rattle.rules.specs.Machine.{Task, asleep, runnable, taskPlaces}
+use Rattle.rules.specs.Events.{wakeCpu}
+use Rattle.rules.specs.Plan.{enter, withState}
+use Rattle.plans.specs.Decided.{asTask}
+use Rattle.plans.proofs.Answers.{fails-here, passes-here, none-left}
+use Rattle.plans.proofs.Plans.{replaced, is-in, not-in, used-fit, wake-is, wakes}
+use Rattle.lifecycle.proofs.wake.Statement.{statement}
+use Rattle.lifecycle.proofs.wake.Tie as tie
+use Rattle.lifecycle.proofs.wake.Proof.Paths as at
+mod Paths
+
+returns : tie.Need-returns
+returns c = λ m kind a b j l. let k = at.returns c in (fails-here _ _ _ (le-leb taskPlaces (k .args .who) (k .if1 .taken)), suc-ne-zero 3)
+
+returns-2 : tie.Need-returns-2
+returns-2 c =
+    λ m kind a b j l.
+    let k = at.returns-2 c in
+    (passes-here _ _ _ 5 (lt-leb taskPlaces (k .args .who) (k .if1 .left)) (fails-here _ _ _ (ap not (not-in l asleep (k .if2 .taken)))), suc-ne-zero 4)
+
+cast-wake-cpu : tie.Need-cast-wake-cpu
+cast-wake-cpu c = search needs
+
+wake-cpu-requires : tie.Need-wake-cpu-requires
+wake-cpu-requires c κs =
+    let k = at.wake-cpu-requires c in
+    let l = k .pre .1 in
+    let fit = used-fit l (k .if1 .left) (λ z. omega (arith, k .if2 .left)) in
+    omega (arith, fit .cpu, l .formed .shape .cpus, ap (λ (x : Task). x .cpu) (l .columns))
+
+cast-enter : tie.Need-cast-enter
+cast-enter c = search needs
+
+enter-requires : tie.Need-enter-requires
+enter-requires c κs = search needs
+
+returns-3 : tie.Need-returns-3
+returns-3 c =
+    λ m kind a b j l.
+    let k = at.returns-3 c in
+    let t = k .args .who in
+    let s = k .if2 .left in (
+      passes-here _ _ _ 0 (lt-leb taskPlaces t (k .if1 .left)) (passes-here _ _ _ 0 (ap not (is-in l asleep s)) none-left),
+      replaced
+          (k .enter .ensures ∙ ap (enter t (withState runnable (asTask (k .args .named)))) (k .wake-cpu .ensures ∙ wake-is l (k .if1 .left) s)
+          ∙ ap (λ (σ : Task). enter t (withState runnable σ) (wakeCpu m t)) (l .columns))
+          (wakes l (k .if1 .left) s),
+    )
+
+pub wake-spec : {M : Type 1} → statement M
+wake-spec = at.close returns returns-2 cast-wake-cpu wake-cpu-requires cast-enter enter-requires returns-3

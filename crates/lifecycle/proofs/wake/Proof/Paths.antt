@@ -1,0 +1,52 @@
+-- The places of `lifecycle::wake` by name, and its needs that are plumbing. Written by `scripts/paths lifecycle`: not to be edited.
+-- Assumes nothing.
+use Rattle.lifecycle.proofs.wake.Statement.{statement}
+use Rattle.lifecycle.proofs.wake.Tie as tie
+
+abbrev typeOf : {A : Type 0} → A → Type 0
+typeOf {A} x = A
+
+abbrev pub start : (c : tie.Start) → record { args : typeOf (c .args); pre : typeOf (c .pre) }
+start c = record { args = c .args; pre = c .pre }
+
+abbrev pub then1 : (c : tie.Then1) → let b = start (c .before) in record { args : typeOf (b .args); if1 : typeOf (c .if1) }
+then1 c = let b = start (c .before) in record { args = b .args; if1 = c .if1 }
+
+abbrev pub else1 : (c : tie.Else1) → let b = start (c .before) in record { args : typeOf (b .args); pre : typeOf (b .pre); if1 : typeOf (c .if1) }
+else1 c = let b = start (c .before) in record { args = b .args; pre = b .pre; if1 = c .if1 }
+
+abbrev pub then2 : (c : tie.Then2) → let b = else1 (c .before .before) in record { args : typeOf (b .args); if1 : typeOf (b .if1); if2 : typeOf (c .if2) }
+then2 c = let b = else1 (c .before .before) in record { args = b .args; if1 = b .if1; if2 = c .if2 }
+
+abbrev pub else2 : (c : tie.Else2) → let b = else1 (c .before .before) in record { args : typeOf (b .args); pre : typeOf (b .pre); if1 : typeOf (b .if1); if2 : typeOf (c .if2) }
+else2 c = let b = else1 (c .before .before) in record { args = b .args; pre = b .pre; if1 = b .if1; if2 = c .if2 }
+
+abbrev pub after-wake-cpu : (c : tie.After-wake-cpu) → let b = else2 (c .before .before) in record { args : typeOf (b .args); if1 : typeOf (b .if1); if2 : typeOf (b .if2); wake-cpu : typeOf (c .wake-cpu) }
+after-wake-cpu c = let b = else2 (c .before .before) in record { args = b .args; if1 = b .if1; if2 = b .if2; wake-cpu = c .wake-cpu }
+
+abbrev pub after-enter : (c : tie.After-enter) → let b = after-wake-cpu (c .before) in record { args : typeOf (b .args); if1 : typeOf (b .if1); if2 : typeOf (b .if2); wake-cpu : typeOf (b .wake-cpu); enter : typeOf (c .enter) }
+after-enter c = let b = after-wake-cpu (c .before) in record { args = b .args; if1 = b .if1; if2 = b .if2; wake-cpu = b .wake-cpu; enter = c .enter }
+
+abbrev pub returns : (c : tie.Then1) → typeOf (then1 c)
+returns c = then1 c
+
+abbrev pub returns-2 : (c : tie.Then2) → typeOf (then2 c)
+returns-2 c = then2 c
+
+abbrev pub wake-cpu-requires : (c : tie.After-struct-known2) → typeOf (else2 (c .before))
+wake-cpu-requires c = else2 (c .before)
+
+abbrev pub returns-3 : (c : tie.After-enter) → typeOf (after-enter c)
+returns-3 c = after-enter c
+
+pub close : {M : Type 1} → tie.Need-returns → tie.Need-returns-2 → tie.Need-cast-wake-cpu → tie.Need-wake-cpu-requires → tie.Need-cast-enter → tie.Need-enter-requires → tie.Need-returns-3 → statement M
+close a0 a1 a2 a3 a4 a5 a6 =
+    tie.close
+    (tie.spec
+    a0
+    a1
+    a2
+    a3
+    a4
+    a5
+    a6)

@@ -1,0 +1,119 @@
+// Tasks come, wake, sleep and go: kinds 1 to 4. Each has its checks in the paper's order and then its effect. `who` is the number in
+// the event, `named` what stands in the columns of the task that it names.
+ghost use mathlib.Core.Path.{_≡_};
+ghost use mathlib.Core.Bool.{cond};
+ghost use Prim.Native.Nat.{ℕ, _≤_, _<_};
+ghost use Rattle.bits.specs.Bit.{bit, lowest as lowestBit};
+ghost use Rattle.cpupri.specs.Level.{cpuPlaces};
+ghost use Rattle.rules.specs.Machine.{Machine};
+ghost use Rattle.rules.specs.Events.{event, add as addKind, remove as removeKind, wake as wakeKind, sleep as sleepKind};
+ghost use Rattle.plans.specs.Decided.{Named, DecidedAs};
+use cpupri::find::mask_fits;
+use plans::checks::is_policy;
+use plans::checks::is_priority;
+use plans::plan::Decision;
+use plans::plan::Plan;
+use plans::plan::Task;
+use rules::answer;
+use rules::task;
+use runqueue::row::PLACES;
+
+// Kind 1: a new task, asleep on the lowest-numbered allowed CPU, with a full slice.
+pub fn add(n: usize, named: Task, who: u32, a: u32, b: u32, k: u64) -> Decision
+    requires { ⌜ n ≤ cpuPlaces ⌝ }
+    ensures { λ r. ⌜ ((m : Machine) (kind : ℕ) → n ≡ m .n → Named m who named → DecidedAs addKind m (event kind who a b k) r) ⌝ }
+{
+    let known = is_policy(a);
+    let in_range = is_priority(b);
+    let fits = mask_fits(n, k);
+    let lowest = bits::lowest_bit(k);
+    if PLACES <= who as usize {
+        return Decision::Refused(answer::BAD_NUMBER);
+    }
+    if named.state != task::FREE {
+        return Decision::Refused(answer::WRONG_STATE);
+    }
+    if !known {
+        return Decision::Refused(answer::BAD_POLICY);
+    }
+    if !in_range {
+        return Decision::Refused(answer::BAD_VALUE);
+    }
+    if !fits {
+        return Decision::Refused(answer::BAD_MASK);
+    }
+    let new = Task {
+        state: task::ASLEEP,
+        policy: a as u8,
+        prio: b as u8,
+        cpu: lowest as u8,
+        slice: task::FULL_SLICE,
+        mask: k,
+    };
+    Decision::Place(Plan::rewrite(who as u16, new))
+}
+
+// Kind 2: a task that is asleep leaves its place free.
+pub fn remove(named: Task, who: u32) -> Decision
+    ensures { λ r. ⌜ ((m : Machine) (kind a b k : ℕ) → Named m who named → DecidedAs removeKind m (event kind who a b k) r) ⌝ }
+{
+    if PLACES <= who as usize {
+        return Decision::Refused(answer::BAD_NUMBER);
+    }
+    if named.state != task::ASLEEP {
+        return Decision::Refused(answer::WRONG_STATE);
+    }
+    let none = Task {
+        state: task::FREE,
+        policy: 0,
+        prio: 0,
+        cpu: 0,
+        slice: 0,
+        mask: 0,
+    };
+    Decision::Place(Plan::rewrite(who as u16, none))
+}
+
+// Kind 3: a sleeper becomes runnable, and enters the row of its CPU or, if that is not allowed, of the
+// lowest-numbered allowed one. Its slice is kept.
+pub fn wake(named: Task, who: u32) -> Decision
+    requires { ⌜ ((m : Machine) × Named m who named) ⌝ }
+    ensures { λ r. ⌜ ((m : Machine) (kind a b k : ℕ) → Named m who named → DecidedAs wakeKind m (event kind who a b k) r) ⌝ }
+{
+    if PLACES <= who as usize {
+        return Decision::Refused(answer::BAD_NUMBER);
+    }
+    if named.state != task::ASLEEP {
+        return Decision::Refused(answer::WRONG_STATE);
+    }
+    let target = wake_cpu(named.cpu as usize, named.mask);
+    let mut becomes = named;
+    becomes.state = task::RUNNABLE;
+    Decision::Place(Plan::enter(who as u16, becomes, target))
+}
+
+// Kind 4: a runnable task leaves its row. Its CPU and its slice are kept.
+pub fn sleep(named: Task, who: u32) -> Decision
+    ensures { λ r. ⌜ ((m : Machine) (kind a b k : ℕ) → Named m who named → DecidedAs sleepKind m (event kind who a b k) r) ⌝ }
+{
+    if PLACES <= who as usize {
+        return Decision::Refused(answer::BAD_NUMBER);
+    }
+    if named.state != task::RUNNABLE {
+        return Decision::Refused(answer::WRONG_STATE);
+    }
+    let mut becomes = named;
+    becomes.state = task::ASLEEP;
+    Decision::Place(Plan::leave(who as u16, named.cpu as usize, becomes))
+}
+
+// Where a task wakes: on its CPU if that is allowed, else on the lowest-numbered allowed one.
+fn wake_cpu(cpu: usize, mask: u64) -> usize
+    requires { ⌜ cpu < cpuPlaces ⌝ }
+    ensures { λ r. ⌜ r ≡ cond (bit mask cpu) cpu (lowestBit cpuPlaces mask) ⌝ }
+{
+    if bits::test_bit(mask, cpu) {
+        return cpu;
+    }
+    bits::lowest_bit(mask) as usize
+}

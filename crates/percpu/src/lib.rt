@@ -1,0 +1,69 @@
+// What happens on a CPU: kinds 7 to 9. Each has its checks in the paper's order and then its effect. `who` is the CPU; a tick and a
+// yield have in `at` the task that runs there, and in `runner` what stands in its columns.
+ghost use mathlib.Core.Path.{_≡_};
+ghost use Prim.Native.Nat.{ℕ};
+ghost use Rattle.rules.specs.Machine.{Machine};
+ghost use Rattle.rules.specs.Events.{event, tick as tickKind, yield, set-ordinary};
+ghost use Rattle.plans.specs.Decided.{Runs, DecidedAs};
+use plans::plan::Decision;
+use plans::plan::Plan;
+use plans::plan::Task;
+use rules::answer;
+use rules::task;
+use runqueue::row::PLACES;
+
+// there is ordinary work; 0: there is none
+const WORK: u32 = 1;
+
+// Kind 7: an RR task has a tick less; at 0 its slice is full again and it goes behind its equals.
+// Nothing happens to a FIFO task or to an empty row.
+pub fn tick(n: usize, at: usize, runner: Task, who: u32) -> Decision
+    ensures { λ r. ⌜ ((m : Machine) (kind a b k : ℕ) → n ≡ m .n → Runs m who at runner → DecidedAs tickKind m (event kind who a b k) r) ⌝ }
+{
+    let cpu = who as usize;
+    if n <= cpu {
+        return Decision::Refused(answer::BAD_NUMBER);
+    }
+    if PLACES <= at {
+        return Decision::Nothing;
+    }
+    if runner.policy != task::RR {
+        return Decision::Nothing;
+    }
+    if 1 < runner.slice {
+        let mut less = runner;
+        less.slice = runner.slice - 1;
+        return Decision::Place(Plan::rewrite(at as u16, less));
+    }
+    let mut full = runner;
+    full.slice = task::FULL_SLICE;
+    Decision::Place(Plan::shift(at as u16, cpu, full, cpu))
+}
+
+// Kind 8: the first task goes behind its equals. Its slice is kept.
+pub fn yield_cpu(n: usize, at: usize, runner: Task, who: u32) -> Decision
+    ensures { λ r. ⌜ ((m : Machine) (kind a b k : ℕ) → n ≡ m .n → Runs m who at runner → DecidedAs yield m (event kind who a b k) r) ⌝ }
+{
+    let cpu = who as usize;
+    if n <= cpu {
+        return Decision::Refused(answer::BAD_NUMBER);
+    }
+    if PLACES <= at {
+        return Decision::Refused(answer::EMPTY_ROW);
+    }
+    Decision::Place(Plan::shift(at as u16, cpu, runner, cpu))
+}
+
+// Kind 9: whether a CPU has ordinary work.
+pub fn set_ordinary(n: usize, who: u32, b: u32) -> Decision
+    ensures { λ r. ⌜ ((m : Machine) (kind a k : ℕ) → n ≡ m .n → DecidedAs set-ordinary m (event kind who a b k) r) ⌝ }
+{
+    let cpu = who as usize;
+    if n <= cpu {
+        return Decision::Refused(answer::BAD_NUMBER);
+    }
+    if WORK < b {
+        return Decision::Refused(answer::BAD_VALUE);
+    }
+    Decision::Flag { cpu, work: b as u8 }
+}

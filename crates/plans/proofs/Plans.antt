@@ -1,0 +1,243 @@
+-- The plan of each kind is its own effect, and can be carried out.
+-- Assumes nothing.
+use mathlib.Core.Path.{_≡_, refl, sym, ap, _∙_, subst}
+use mathlib.Core.Bool.{Bool, true, false, cond, not, _||_, _&&_}
+use mathlib.Core.Logic.{_≢_, _⊎_, inl, inr}
+use mathlib.Core.List.{List, [], _∷_}
+use Prim.Native.Nat.{ℕ, _-_, _≤_, _<_, _^_}
+use native.Mathlib.Omega.{arith}
+use lib.Dec.{eqb, leb}
+use borrow.Author.Tests.{eq-eqb, ne-eqb, le-leb, lt-leb, leb-true}
+use Rattle.bits.specs.Bit.{bit, first, lowest}
+use Rattle.bits.proofs.Search.{lowest-is, first-before}
+use Rattle.cpupri.specs.Found.{maskFits}
+use Rattle.rules.specs.Lists.{In}
+use Rattle.rules.specs.Machine.{Machine, Task, taskOf, freeTask, row, enqueue, dequeue, requeue, lowestAllowed, free, asleep, runnable, rr, fullSlice, cpuPlaces, taskPlaces, highestPriority}
+use Rattle.rules.specs.WellFormed.{WellFormed, Fit}
+use Rattle.rules.specs.Events.{Event, added, wakeCpu, woken, slept, reprioritised, reaffined, tickedTask, ticked, yielded, toFirst, event}
+use Rattle.rules.proofs.Lists.{in-here}
+use Rattle.rules.proofs.Apart.{fit-of, runnable-fit, runnable-place, row-in, in-row}
+use Rattle.rules.proofs.Effects.{lowest-good}
+use Rattle.rules.specs.Plan.{Plan, carried, rewrite, enter, leave, shift, withState, withPrio, withSlice, withMask, Doable, Carries}
+use Rattle.plans.specs.Decided.{asTask, Named, Runs, firstOf}
+use Rattle.plans.specs.declared.plan.Task.{Task as Columns}
+use Rattle.plans.proofs.Planned.{write-self, write-state, write-prio, write-slice, write-mask}
+
+pub replaced : {done m : Machine} {p q : Plan} → q ≡ p → Carries done m p → Carries done m q
+replaced {done} {m} e h = subst (Carries done m) (sym e) h
+
+-- the lowest bit of a 64-bit mask is the lowest-numbered allowed CPU
+pub lowest-allowed : (m : Machine) (k : ℕ) → m .n ≤ cpuPlaces → 0 < k → k < 2 ^ m .n → lowest cpuPlaces k ≡ lowestAllowed m k
+lowest-allowed m k small some fits =
+    let good : (first (bit k) (m .n) < m .n) × (bit k (first (bit k) (m .n)) ≡ true) = lowest-good k (m .n) some fits in
+    lowest-is 64 k (first (bit k) (m .n)) (omega arith) (good .1) (first-before (bit k) (m .n))
+
+-- ---- the task that is named
+
+module _ {m : Machine} {t : ℕ} {τ : Columns} (l : Named m t τ) where
+  pub state-is : {s : ℕ} → τ .state ≡ s → taskOf m t .state ≡ s
+  state-is e = ap (λ (x : Task). x .state) (sym (l .columns)) ∙ e
+
+  pub state-other : {s : ℕ} → τ .state ≢ s → taskOf m t .state ≢ s
+  state-other n e = n (ap (λ (x : Task). x .state) (l .columns) ∙ e)
+
+  pub is-in : (s : ℕ) → τ .state ≡ s → eqb (taskOf m t .state) s ≡ true
+  is-in s e = eq-eqb (taskOf m t .state) s (state-is e)
+
+  pub not-in : (s : ℕ) → τ .state ≢ s → eqb (taskOf m t .state) s ≡ false
+  not-in s n = ne-eqb (taskOf m t .state) s (state-other n)
+
+  module _ (ht : t < taskPlaces) where
+    pub used-fit : τ .state ≢ free → Fit (m .n) (taskOf m t)
+    used-fit n = fit-of (m .n) (taskOf m t) (l .formed .tasks t ht) (state-other n)
+
+    pub idle : (σ : Task) → taskOf m t .state ≢ runnable → Doable m (rewrite t σ)
+    idle σ n = record { task = ht; leaves = tt; stays = inl n; enters = tt }
+
+    pub kept : (σ : Task) → σ .prio ≡ taskOf m t .prio → Doable m (rewrite t σ)
+    kept σ e = record { task = ht; leaves = tt; stays = inr (e, refl); enters = tt }
+
+    pub shifted : (σ : Task) (d : ℕ) → taskOf m t .state ≡ runnable → d < m .n → σ .prio ≤ highestPriority → Doable m (shift t (taskOf m t .cpu) σ d)
+    shifted σ d s hd hp =
+        record {
+          task = ht;
+          leaves = (runnable-fit m t (l .formed) s .cpu, row-in m t (l .formed) s);
+          stays = tt;
+          enters = (hd, hp);
+        }
+
+    -- kinds 1 and 2
+    pub rewritten : (σ : Task) → taskOf m t .state ≢ runnable → Carries (carried (rewrite t σ) m) m (rewrite t σ)
+    rewritten σ n = record { effect = refl; doable = idle σ n }
+
+    -- kind 3
+    module _ (s : τ .state ≡ asleep) where
+      asleep-fit : Fit (m .n) (taskOf m t)
+      asleep-fit = used-fit (λ z. omega arith)
+
+      pub wake-small : wakeCpu m t < m .n
+      wake-small = go (bit (taskOf m t .mask) (taskOf m t .cpu))
+        where
+          go : (b : Bool) → cond b (taskOf m t .cpu) (lowestAllowed m (taskOf m t .mask)) < m .n
+          go true = asleep-fit .cpu
+          go false = lowest-good (taskOf m t .mask) (m .n) (asleep-fit .mask-some) (asleep-fit .mask-fits) .0
+
+      pub wake-is : cond (bit (τ .mask) (τ .cpu)) (τ .cpu) (lowest cpuPlaces (τ .mask)) ≡ wakeCpu m t
+      wake-is =
+          ap (λ (x : Task). cond (bit (x .mask) (x .cpu)) (x .cpu) (lowest cpuPlaces (x .mask))) (l .columns)
+          ∙ ap (cond (bit (taskOf m t .mask) (taskOf m t .cpu)) (taskOf m t .cpu))
+          (lowest-allowed m (taskOf m t .mask) (l .formed .shape .cpus) (asleep-fit .mask-some) (asleep-fit .mask-fits))
+
+      pub wakes : Carries (woken t m) m (enter t (withState runnable (taskOf m t)) (wakeCpu m t))
+      wakes =
+          record {
+            effect = ap (enqueue t (wakeCpu m t)) (sym (write-state t runnable m));
+            doable = record {
+              task = ht;
+              leaves = tt;
+              stays = inl (λ z. let a : taskOf m t .state ≡ asleep = state-is s in omega arith);
+              enters = (wake-small, asleep-fit .prio-high);
+            };
+          }
+
+    -- kind 4
+    pub sleeps : τ .state ≡ runnable → Carries (slept t m) m (leave t (taskOf m t .cpu) (withState asleep (taskOf m t)))
+    sleeps s =
+        record {
+          effect = sym (write-state t asleep (dequeue t (taskOf m t .cpu) m));
+          doable = record {
+            task = ht;
+            leaves = (runnable-fit m t (l .formed) (state-is s) .cpu, row-in m t (l .formed) (state-is s));
+            stays = tt;
+            enters = tt;
+          };
+        }
+
+    -- kind 5
+    module _ (p : ℕ) where
+      pub priority-idle : τ .state ≢ runnable → Carries (reprioritised t p m) m (rewrite t (withPrio p (taskOf m t)))
+      priority-idle n =
+          record {
+            effect = rw (not-in runnable n) (sym (write-prio t p m));
+            doable = idle (withPrio p (taskOf m t)) (state-other n);
+          }
+
+      pub priority-same : τ .state ≡ runnable → τ .prio ≡ p → reprioritised t p m ≡ m
+      priority-same s e =
+          rw (is-in runnable s, eq-eqb (taskOf m t .prio) p (ap (λ (x : Task). x .prio) (sym (l .columns)) ∙ e))
+
+      pub priority-moved : τ .state ≡ runnable → τ .prio ≢ p → p ≤ highestPriority → Carries (reprioritised t p m) m (shift t (taskOf m t .cpu) (withPrio p (taskOf m t)) (taskOf m t .cpu))
+      priority-moved s n hp =
+          record {
+            effect = rw (is-in runnable s, ne-eqb (taskOf m t .prio) p (λ e. n (ap (λ (x : Task). x .prio) (l .columns) ∙ e))) (ap (enqueue t (taskOf m t .cpu)) (sym (write-prio t p (dequeue t (taskOf m t .cpu) m))));
+            doable = shifted (withPrio p (taskOf m t)) (taskOf m t .cpu) (state-is s) (runnable-fit m t (l .formed) (state-is s) .cpu) hp;
+          }
+
+    -- kind 6
+    module _ (k : ℕ) where
+      pub affinity-idle : τ .state ≢ runnable → Carries (reaffined t k m) m (rewrite t (withMask k (taskOf m t)))
+      affinity-idle n =
+          record {
+            effect = rw (not-in runnable n) (sym (write-mask t k m));
+            doable = idle (withMask k (taskOf m t)) (state-other n);
+          }
+
+      pub affinity-same : τ .state ≡ runnable → bit k (τ .cpu) ≡ true → Carries (reaffined t k m) m (rewrite t (withMask k (taskOf m t)))
+      affinity-same s e =
+          record {
+            effect = rw (is-in runnable s, ap (λ (x : Task). bit k (x .cpu)) (sym (l .columns)) ∙ e) (sym (write-mask t k m));
+            doable = kept (withMask k (taskOf m t)) refl;
+          }
+
+      pub affinity-moved : τ .state ≡ runnable → bit k (τ .cpu) ≡ false → 0 < k → k < 2 ^ m .n → Carries (reaffined t k m) m (shift t (taskOf m t .cpu) (withMask k (taskOf m t)) (lowestAllowed m k))
+      affinity-moved s e some fits =
+          record {
+            effect = rw (is-in runnable s, ap (λ (x : Task). bit k (x .cpu)) (sym (l .columns)) ∙ e) (ap (enqueue t (lowestAllowed m k)) (sym (write-mask t k (dequeue t (taskOf m t .cpu) m))));
+            doable = shifted (withMask k (taskOf m t)) (lowestAllowed m k) (state-is s) (lowest-good k (m .n) some fits .0) (runnable-fit m t (l .formed) (state-is s) .prio-high);
+          }
+
+-- ---- the first of a row
+
+pub some-first : (t : ℕ) (r : List ℕ) → t ≡ firstOf r → t < taskPlaces → (ts : List ℕ) × (r ≡ t ∷ ts)
+some-first t [] e h = absurd (omega arith)
+some-first t (u ∷ us) e h = (us, ap (λ (x : ℕ). x ∷ us) (sym e))
+
+pub no-first : (m : Machine) (c t : ℕ) → WellFormed m → t ≡ firstOf (row m c) → taskPlaces ≤ t → row m c ≡ []
+no-first m c t w e z = go (row m c) refl
+  where
+    go : (r : List ℕ) → row m c ≡ r → r ≡ []
+    go [] q = refl
+    go (u ∷ us) q =
+        let small : u < taskPlaces = runnable-place m u w (in-row m u c w (subst (In u) (sym q) (in-here u us)) .0) in
+        let is : t ≡ u = e ∙ ap firstOf q in
+        absurd (omega arith)
+
+-- ---- the task that runs
+
+module _ {m : Machine} {c t : ℕ} {τ : Columns} (l : Runs m c t τ) where
+  pub empty : taskPlaces ≤ t → row m c ≡ []
+  empty z = no-first m c t (l .formed) (l .first) z
+
+  pub ticked-empty : taskPlaces ≤ t → ticked c m ≡ m
+  ticked-empty z = ap (toFirst (λ (t : ℕ). tickedTask t c m) m) (empty z)
+
+  module _ (some : t < taskPlaces) where
+    pub runs : (ts : List ℕ) × (row m c ≡ t ∷ ts)
+    runs = some-first t (row m c) (l .first) some
+
+    stands : (taskOf m t .state ≡ runnable) × (taskOf m t .cpu ≡ c)
+    stands = in-row m t c (l .formed) (subst (In t) (sym (runs .1)) (in-here t (runs .0)))
+
+    named : Named m t τ
+    named = record { formed = l .formed; columns = l .columns }
+
+    behind : (σ : Task) → σ .prio ≡ taskOf m t .prio → Doable m (shift t c σ c)
+    behind σ e =
+        subst (λ (d : ℕ). Doable m (shift t d σ d)) (stands .1)
+        (shifted named some σ (taskOf m t .cpu) (stands .0) (runnable-fit m t (l .formed) (stands .0) .cpu)
+        (subst (λ (x : ℕ). x ≤ highestPriority) (sym e) (runnable-fit m t (l .formed) (stands .0) .prio-high)))
+
+    ticked-is : ticked c m ≡ tickedTask t c m
+    ticked-is = ap (toFirst (λ (t : ℕ). tickedTask t c m) m) (runs .1)
+
+    pub ticked-fifo : τ .policy ≢ rr → ticked c m ≡ m
+    ticked-fifo n =
+        ticked-is ∙ rw (ne-eqb (taskOf m t .policy) rr (λ e. n (ap (λ (x : Task). x .policy) (l .columns) ∙ e)))
+
+    module _ (r : τ .policy ≡ rr) where
+      is-rr : eqb (taskOf m t .policy) rr ≡ true
+      is-rr = eq-eqb (taskOf m t .policy) rr (ap (λ (x : Task). x .policy) (sym (l .columns)) ∙ r)
+
+      slice-is : τ .slice ≡ taskOf m t .slice
+      slice-is = ap (λ (x : Task). x .slice) (l .columns)
+
+      pub ticks-less : 1 < τ .slice → Carries (ticked c m) m (rewrite t (withSlice (taskOf m t .slice - 1) (taskOf m t)))
+      ticks-less h =
+          record {
+            effect = ticked-is ∙ rw (is-rr, ne-eqb (taskOf m t .slice - 1) 0 (λ e. omega (arith, slice-is))) (sym (write-slice t (taskOf m t .slice - 1) m));
+            doable = kept named some (withSlice (taskOf m t .slice - 1) (taskOf m t)) refl;
+          }
+
+      pub ticks-again : τ .slice ≤ 1 → Carries (ticked c m) m (shift t c (withSlice fullSlice (taskOf m t)) c)
+      ticks-again h =
+          let z : taskOf m t .slice - 1 ≡ 0 = omega (arith, slice-is) in
+          record {
+            effect = ticked-is ∙ rw (is-rr, eq-eqb (taskOf m t .slice - 1) 0 z) (ap (enqueue t c) (sym (write-slice t fullSlice (dequeue t c m))));
+            doable = behind (withSlice fullSlice (taskOf m t)) refl;
+          }
+
+    pub yields : Carries (yielded c m) m (shift t c (taskOf m t) c)
+    yields =
+        record {
+          effect = ap (toFirst (λ (t : ℕ). requeue t c m) m) (runs .1) ∙ ap (enqueue t c) (sym (write-self t (dequeue t c m)));
+          doable = behind (taskOf m t) refl;
+        }
+
+-- ---- CPU numbers, with N as it is lent
+
+module _ {n k who : ℕ} (is : n ≡ k) where
+  pub no-cpu : n ≤ who → leb k who ≡ true
+  no-cpu h = ap (λ (x : ℕ). leb x who) (sym is) ∙ le-leb n who h
+
+  pub a-cpu : who < n → leb k who ≡ false
+  a-cpu h = ap (λ (x : ℕ). leb x who) (sym is) ∙ lt-leb n who h

@@ -1,0 +1,61 @@
+-- What a decision says of an event on a well-formed machine, and what each kind is decided from.
+-- Assumes nothing.
+use mathlib.Core.Path.{_≡_}
+use mathlib.Core.Logic.{_≢_}
+use mathlib.Core.List.{List, [], _∷_}
+use Prim.Native.Nat.{ℕ, _≤_, _<_}
+use Rattle.rules.specs.Machine.{Machine, Task, taskOf, row, withFlag}
+use Rattle.rules.specs.Tables.{nothing}
+use Rattle.rules.specs.WellFormed.{WellFormed}
+use Rattle.rules.specs.Events.{Event, Kind, effectOf}
+use Rattle.rules.specs.Plan.{Plan, carried, Carries}
+use Rattle.rules.specs.Refusals.{firstFailing, checks}
+use Rattle.plans.specs.declared.plan.Task.{Task as Columns}
+use Rattle.plans.specs.declared.plan.Plan.{Plan as Written}
+use Rattle.plans.specs.declared.plan.Decision.{Decision}
+use Rattle.plans.specs.declared.plan.Decision.the-variants.{Refused, Nothing, Place, Flag}
+
+-- ---- the code's records as the rules'
+
+abbrev pub asTask : Columns → Task
+asTask τ = record { state = τ .state; policy = τ .policy; prio = τ .prio; cpu = τ .cpu; slice = τ .slice; mask = τ .mask }
+
+abbrev pub asPlan : Written → Plan
+asPlan p = record { task = p .task; leaves = p .leaves; origin = p .origin; becomes = asTask (p .becomes); enters = p .enters; target = p .target }
+
+-- ---- what is known
+
+-- the columns τ of the task t that an event names
+pub record Named (m : Machine) (t : ℕ) (τ : Columns) : Type 0 where
+  pub formed : WellFormed m
+  pub columns : asTask τ ≡ taskOf m t
+
+-- the first of a row, or nothing
+abbrev pub firstOf : List ℕ → ℕ
+firstOf [] = nothing
+firstOf (t ∷ ts) = t
+
+-- the task t that runs on CPU c, with its columns τ
+pub record Runs (m : Machine) (c t : ℕ) (τ : Columns) : Type 0 where
+  pub formed : WellFormed m
+  pub first : t ≡ firstOf (row m c)
+  pub columns : asTask τ ≡ taskOf m t
+
+-- ---- decisions
+
+-- what a decision does to the machine
+abbrev pub did : Decision → Machine → Machine
+did (Refused a) m = m
+did Nothing m = m
+did (Place p) m = carried (asPlan p) m
+did (Flag c b) m = withFlag c b m
+
+-- the right decision where the first check that fails is r and the own effect leaves `done`
+abbrev pub Decided : ℕ → Machine → Machine → Decision → Type 0
+Decided r done m (Refused a) = (a ≡ r) × (a ≢ 0)
+Decided r done m Nothing = (0 ≡ r) × (done ≡ m)
+Decided r done m (Place p) = (0 ≡ r) × Carries done m (asPlan p)
+Decided r done m (Flag c b) = (0 ≡ r) × (done ≡ withFlag c b m) × (c < m .n) × (b ≤ 1)
+
+abbrev pub DecidedAs : Kind → Machine → Event → Decision → Type 0
+DecidedAs k m e d = Decided (firstFailing (checks m e k)) (effectOf k e m) m d

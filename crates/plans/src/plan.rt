@@ -1,0 +1,93 @@
+// What an event does, decided before anything is written.
+ghost use mathlib.Core.Path.{_≡_};
+ghost use Rattle.rules.specs.Plan.{rewrite as rewriting, enter as entering, leave as leaving, shift as shifting};
+ghost use Rattle.plans.specs.Decided.{asTask, asPlan};
+
+// A task place: its entry in each of the six columns.
+pub struct Task {
+    pub state: u8,
+    pub policy: u8,
+    pub prio: u8,
+    pub cpu: u8,
+    pub slice: u16,
+    pub mask: u64,
+}
+
+// A task leaves a row or not, its columns are written, and it enters a row or not. Entering sets its
+// CPU besides.
+pub struct Plan {
+    pub task: u16,
+    pub leaves: bool,
+    pub origin: usize,
+    pub becomes: Task,
+    pub enters: bool,
+    pub target: usize,
+}
+
+pub enum Decision {
+    // the refusal's number
+    Refused(u8),
+    // accepted, and no effect of its own
+    Nothing,
+    Place(Plan),
+    // the CPU has ordinary work (1) or none (0)
+    Flag { cpu: usize, work: u8 },
+}
+
+impl Plan {
+    // Only the columns.
+    pub fn rewrite(task: u16, becomes: Task) -> Plan
+        ensures { λ r. ⌜ asPlan r ≡ rewriting task (asTask becomes) ⌝ }
+    {
+        Plan {
+            task,
+            leaves: false,
+            origin: 0,
+            becomes,
+            enters: false,
+            target: 0,
+        }
+    }
+
+    // Into a row.
+    pub fn enter(task: u16, becomes: Task, target: usize) -> Plan
+        ensures { λ r. ⌜ asPlan r ≡ entering task (asTask becomes) target ⌝ }
+    {
+        Plan {
+            task,
+            leaves: false,
+            origin: 0,
+            becomes,
+            enters: true,
+            target,
+        }
+    }
+
+    // Out of a row.
+    pub fn leave(task: u16, origin: usize, becomes: Task) -> Plan
+        ensures { λ r. ⌜ asPlan r ≡ leaving task origin (asTask becomes) ⌝ }
+    {
+        Plan {
+            task,
+            leaves: true,
+            origin,
+            becomes,
+            enters: false,
+            target: 0,
+        }
+    }
+
+    // From one row to another, or to its place behind its equals in the same one.
+    pub fn shift(task: u16, origin: usize, becomes: Task, target: usize) -> Plan
+        ensures { λ r. ⌜ asPlan r ≡ shifting task origin (asTask becomes) target ⌝ }
+    {
+        Plan {
+            task,
+            leaves: true,
+            origin,
+            becomes,
+            enters: true,
+            target,
+        }
+    }
+}
