@@ -10,7 +10,7 @@ use lib.Seq.{getD-set-same, getD-set-other}
 use Rattle.cpupri.specs.Record.{recordOf, Whole}
 use Rattle.levels.specs.declared.record.Record.{Record}
 use Rattle.rules.specs.Machine.{Machine, prioOf, row, flag, level, levels, rowLevel, withFlag}
-use Rattle.rules.proofs.Lists.{same?}
+use Rattle.laws.proofs.Lists.{same?}
 use Rattle.placement.specs.Held.{InOrder, Following}
 use Rattle.placement.proofs.Levels.{levels-change}
 use Rattle.placement.proofs.Order.{well-formed-order, whole as whole-held}

@@ -14,9 +14,9 @@ use Rattle.rules.specs.Lists.{In}
 use Rattle.rules.specs.Machine.{Machine, Task, Column, taskOf, prioOf, row, flag, level, levels, rowLevel, levelOf, build, store, write, enqueue, dequeue, runnable, taskPlaces, highestPriority}
 use Rattle.rules.specs.Plan.{Plan, left, wrote, carried, When, Doable}
 use Rattle.rules.specs.WellFormed.{WellFormed}
-use Rattle.rules.proofs.Lists.{in-here}
-use Rattle.rules.proofs.Apart.{Apart, apart-idle, apart-dequeue, apart-write, room, in-row, in-other}
-use Rattle.rules.proofs.Rows.{row-other}
+use Rattle.laws.proofs.Lists.{in-here}
+use Rattle.laws.proofs.Apart.{Apart, apart-idle, apart-dequeue, apart-write, room, in-row, in-other}
+use Rattle.laws.proofs.Rows.{row-other}
 use Rattle.placement.specs.Held.{InOrder, Queues, Following, followed}
 use Rattle.placement.proofs.Order.{well-formed-order, apart-order, whole as whole-held}
 use Rattle.placement.proofs.Following.{levels-followed}

@@ -14,8 +14,8 @@ use Rattle.rules.specs.WellFormed.{Shape}
 use Rattle.rules.specs.Refusals.{firstFailing, badSize, illFormed}
 use Rattle.rules.specs.Tables.{Tables, machineOf, padded, flatOf, rowCounts, nothing, logPlaces, lengthsFit, tablesFit}
 use Rattle.rules.specs.Entry.{kept, made, written, checked}
-use Rattle.rules.proofs.Record.{levels-fresh}
-use Rattle.rules.proofs.Entry.{lengths-shape, made-fresh}
+use Rattle.laws.proofs.Record.{levels-fresh}
+use Rattle.laws.proofs.Entry.{lengths-shape, made-fresh}
 
 module _ (n : ℕ) (r : Record) (s : Tables) where
   pub checked-size : lengthsFit n s ≡ false → checked n r s ≡ badSize

@@ -11,8 +11,8 @@ use lib.ListN.{length}
 use Rattle.rules.specs.Machine.{Machine, taskOf, row, taskPlaces}
 use Rattle.rules.specs.Events.{Event, Kind, kindOf, byKind, effectOf}
 use Rattle.rules.specs.Refusals.{firstFailing, noKind, checks, unknownKind}
-use Rattle.rules.proofs.Lists.{same?}
-use Rattle.rules.proofs.Checks.{no-kind}
+use Rattle.laws.proofs.Lists.{same?}
+use Rattle.laws.proofs.Checks.{no-kind}
 use Rattle.plans.specs.Decided.{asTask, firstOf, Named, Runs, Decided, DecidedAs}
 use Rattle.deciding.specs.Subject.{entries, subjectOf, Lent, Decides}
 use Rattle.plans.specs.declared.plan.Task.{Task as Columns}

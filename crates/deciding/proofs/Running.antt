@@ -12,8 +12,8 @@ use Rattle.rules.specs.Lists.{In}
 use Rattle.rules.specs.Machine.{Machine, row, levels, taskPlaces}
 use Rattle.rules.specs.Tables.{nothing}
 use Rattle.rules.specs.WellFormed.{WellFormed}
-use Rattle.rules.proofs.Lists.{in-here}
-use Rattle.rules.proofs.Apart.{in-row, runnable-place}
+use Rattle.laws.proofs.Lists.{in-here}
+use Rattle.laws.proofs.Apart.{in-row, runnable-place}
 use Rattle.runqueue.specs.Table.{HoldsRows, rowAt}
 use Rattle.runqueue.proofs.Flat.{count-is, first-place, rows-fit}
 use Rattle.placement.specs.Held.{Held}

@@ -16,12 +16,12 @@ use Rattle.rules.specs.Outcome.{Outcome, logged}
 use Rattle.rules.specs.Tables.{Tables, machineOf, tablesOf, flatOf, rowsOf, rowCounts, logPlaces}
 use Rattle.rules.specs.Entry.{result, Good, Result, kept, written, checked, eventAnswer, handled}
 use Rattle.rules.specs.LentDemand3.{LentDemand3}
-use Rattle.rules.proofs.Checks.{outcome-accepted}
-use Rattle.rules.proofs.Effects.{keep-effect}
-use Rattle.rules.proofs.Runs.{settle-run, run-keeps, run-few}
-use Rattle.rules.proofs.Tables.{write-read, stored-test}
-use Rattle.rules.proofs.Entry.{checked-good, good-checked, answer-checked, answer-event, handled-answer, handled-refused, handled-accepted, handled-good, start-n}
-use Rattle.rules.proofs.LentDemand3.{handled-lent}
+use Rattle.laws.proofs.Checks.{outcome-accepted}
+use Rattle.laws.proofs.Effects.{keep-effect}
+use Rattle.laws.proofs.Runs.{settle-run, run-keeps, run-few}
+use Rattle.laws.proofs.Tables.{write-read, stored-test}
+use Rattle.laws.proofs.Entry.{checked-good, good-checked, answer-checked, answer-event, handled-answer, handled-refused, handled-accepted, handled-good, start-n}
+use Rattle.laws.proofs.LentDemand3.{handled-lent}
 use Rattle.lenttables.specs.Lent.{lent}
 use Rattle.plans.specs.Decided.{did}
 use Rattle.deciding.specs.Subject.{subjectOf, Lent, LentRows, Decides}

@@ -28,7 +28,7 @@ pub fn add(n: usize, named: Task, who: u32, a: u32, b: u32, k: u64) -> Decision
     let fits = mask_fits(n, k);
     let lowest = bits::lowest_bit(k);
     if PLACES <= who as usize {
-        return Decision::Refused(answer::BAD_NUMBER);
+        return Decision::Refused(answer::BAD_NUMBER); // before its state is asked
     }
     if named.state != task::FREE {
         return Decision::Refused(answer::WRONG_STATE);
@@ -84,7 +84,7 @@ pub fn wake(named: Task, who: u32) -> Decision
         return Decision::Refused(answer::BAD_NUMBER);
     }
     if named.state != task::ASLEEP {
-        return Decision::Refused(answer::WRONG_STATE);
+        return Decision::Refused(answer::WRONG_STATE); // free, or awake already
     }
     let target = wake_cpu(named.cpu as usize, named.mask);
     let mut becomes = named;

@@ -8,7 +8,7 @@ use lib.ListN.{length, getD, set, drop, length-append}
 use lib.Seq.{drop-cons, set-at}
 use Rattle.rules.specs.Migration.{Move}
 use Rattle.rules.specs.Outcome.{logNumbers, logged}
-use Rattle.rules.proofs.Log.{length-numbers}
+use Rattle.laws.proofs.Log.{length-numbers}
 
 numbers-snoc : (l : List Move) (v : Move) → logNumbers (l ++ (v ∷ [])) ≡ logNumbers l ++ (v .task ∷ v .origin ∷ v .target ∷ [])
 unfolding logNumbers

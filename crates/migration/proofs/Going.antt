@@ -16,8 +16,8 @@ use Rattle.rules.specs.Migration.{Move, Settled, next, settleAll}
 use Rattle.rules.specs.Outcome.{logNumbers, logged}
 use Rattle.rules.specs.Tables.{flatOf, logPlaces}
 use Rattle.rules.specs.WellFormed.{WellFormed}
-use Rattle.rules.proofs.Log.{length-logged}
-use Rattle.rules.proofs.Tables.{length-flat}
+use Rattle.laws.proofs.Log.{length-logged}
+use Rattle.laws.proofs.Tables.{length-flat}
 use Rattle.placement.specs.Held.{Held}
 use Rattle.mover.specs.Foremost.{Looking, Foremost, BestOf}
 use Rattle.migration.specs.Settling.{Settling, Ended}

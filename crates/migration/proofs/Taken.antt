@@ -10,7 +10,7 @@ use lib.ListN.{length, length-append}
 use Rattle.rules.specs.Machine.{Machine}
 use Rattle.rules.specs.Migration.{Move, Settled, onward, next, migrate, settle, settleAll}
 use Rattle.rules.specs.WellFormed.{WellFormed}
-use Rattle.rules.proofs.Runs.{Run, out, step, run-well-formed, run-few}
+use Rattle.laws.proofs.Runs.{Run, out, step, run-well-formed, run-few}
 
 -- from m the steps l have been taken, and lead to e
 pub data Taken (m : Machine) : List Move → Machine → Type 0 where

@@ -20,10 +20,10 @@ use Rattle.rules.specs.Lists.{In, Falling, place, occ}
 use Rattle.rules.specs.Machine.{Machine, taskOf, prioOf, row, levels, taskPlaces}
 use Rattle.rules.specs.Migration.{movable}
 use Rattle.rules.specs.WellFormed.{Fit}
-use Rattle.rules.proofs.Apart.{in-row, once, runnable-fit}
-use Rattle.rules.proofs.Finder.{movable-found, found-movable}
-use Rattle.rules.proofs.Lists.{in-there, in-getD, occ-cons, digit-same, not-in-nil, falling-at}
-use Rattle.rules.proofs.Order.{place-lt, place-there, place-is}
+use Rattle.laws.proofs.Apart.{in-row, once, runnable-fit}
+use Rattle.laws.proofs.Finder.{movable-found, found-movable}
+use Rattle.laws.proofs.Lists.{in-there, in-getD, occ-cons, digit-same, not-in-nil, falling-at}
+use Rattle.laws.proofs.Order.{place-lt, place-there, place-is}
 use Rattle.runqueue.specs.Row.{ahead}
 use Rattle.runqueue.specs.Table.{HoldsRows, rowAt}
 use Rattle.runqueue.proofs.Places.{place-le, ahead-before, ahead-here}

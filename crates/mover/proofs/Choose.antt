@@ -17,12 +17,12 @@ use Rattle.rules.specs.Lists.{In, delete}
 use Rattle.rules.specs.Machine.{Machine, taskOf, prioOf, row, flag, level, levels, rowLevel, allowed, dequeue}
 use Rattle.rules.specs.Migration.{Move, Chosen, waiting, movable, destination, next}
 use Rattle.rules.specs.WellFormed.{WellFormed, Fit}
-use Rattle.rules.proofs.Apart.{in-row, runnable-fit}
-use Rattle.rules.proofs.Choice.{chosen, chosen-next, movable-one, Target, target-of}
-use Rattle.rules.proofs.Finder.{movable-found, found-level, found-destination}
-use Rattle.rules.proofs.Lists.{tails-in, delete-behind}
-use Rattle.rules.proofs.Record.{levels-below}
-use Rattle.rules.proofs.Step.{Origin, origin-row, origin-small}
+use Rattle.laws.proofs.Apart.{in-row, runnable-fit}
+use Rattle.laws.proofs.Choice.{chosen, chosen-next, movable-one, Target, target-of}
+use Rattle.laws.proofs.Finder.{movable-found, found-level, found-destination}
+use Rattle.laws.proofs.Lists.{tails-in, delete-behind}
+use Rattle.laws.proofs.Record.{levels-below}
+use Rattle.laws.proofs.Step.{Origin, origin-row, origin-small}
 use Rattle.placement.proofs.Levels.{levels-row}
 use Rattle.mover.specs.Foremost.{Foremost}
 use Rattle.mover.proofs.Candidates.{tail-in}

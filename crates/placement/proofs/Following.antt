@@ -17,8 +17,8 @@ use Rattle.levels.proofs.Whole.{level-known, whole-set}
 use Rattle.rules.specs.Lists.{In}
 use Rattle.rules.specs.Machine.{Machine, prioOf, row, flag, level, levels, rowLevel, taskPlaces, cpuPlaces, highestPriority}
 use Rattle.rules.specs.Plan.{When}
-use Rattle.rules.proofs.Lists.{same?}
-use Rattle.rules.proofs.Record.{length-levels, levels-below, levels-above}
+use Rattle.laws.proofs.Lists.{same?}
+use Rattle.laws.proofs.Record.{length-levels, levels-below, levels-above}
 use Rattle.runqueue.specs.Table.{rowAt}
 use Rattle.placement.specs.Held.{InOrder, Following, followed}
 use Rattle.placement.proofs.Levels.{row-level-known}

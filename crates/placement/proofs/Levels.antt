@@ -15,9 +15,9 @@ use Rattle.cpupri.specs.Record.{recordOf, Whole}
 use Rattle.levels.proofs.Whole.{level-known}
 use Rattle.rules.specs.Lists.{In}
 use Rattle.rules.specs.Machine.{Machine, prioOf, flag, level, levels, rowLevel, withRow, cpuPlaces, highestPriority}
-use Rattle.rules.proofs.Lists.{in-here}
-use Rattle.rules.proofs.Record.{length-levels, levels-below, levels-above}
-use Rattle.rules.proofs.Rows.{row-same, row-other}
+use Rattle.laws.proofs.Lists.{in-here}
+use Rattle.laws.proofs.Record.{length-levels, levels-below, levels-above}
+use Rattle.laws.proofs.Rows.{row-same, row-other}
 
 -- one CPU's level changes
 pub levels-change : (m m′ : Machine) (c v : ℕ) → m .n ≤ cpuPlaces → m′ .n ≡ m .n → c < m .n

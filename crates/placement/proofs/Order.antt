@@ -14,11 +14,11 @@ use Rattle.rules.specs.Lists.{In, Falling, delete}
 use Rattle.rules.specs.Machine.{Machine, taskOf, prioOf, row, flag, levels, rowLevel, levelOf, queued, withRow, taskPlaces, highestPriority}
 use Rattle.rules.specs.Tables.{rowsOf, flatOf, rowCounts}
 use Rattle.rules.specs.WellFormed.{WellFormed, Fit}
-use Rattle.rules.proofs.Apart.{Apart, in-row, in-other, in-place, room, queued-joins, standing-means, runnable-fit, runnable-place, fit-of}
-use Rattle.rules.proofs.Lists.{same?, digit-other, in-here, in-delete, length-delete, occ-insert, length-insert, falling-delete}
-use Rattle.rules.proofs.Room.{row-fits}
-use Rattle.rules.proofs.Rows.{row-cases}
-use Rattle.rules.proofs.Tables.{read-written}
+use Rattle.laws.proofs.Apart.{Apart, in-row, in-other, in-place, room, queued-joins, standing-means, runnable-fit, runnable-place, fit-of}
+use Rattle.laws.proofs.Lists.{same?, digit-other, in-here, in-delete, length-delete, occ-insert, length-insert, falling-delete}
+use Rattle.laws.proofs.Room.{row-fits}
+use Rattle.laws.proofs.Rows.{row-cases}
+use Rattle.laws.proofs.Tables.{read-written}
 use Rattle.runqueue.specs.Table.{HoldsRows, rowAt, rowsWith}
 use Rattle.runqueue.proofs.Flat.{holds-written, first-place}
 use Rattle.placement.specs.Held.{InOrder, Held}

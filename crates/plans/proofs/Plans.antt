@@ -15,9 +15,9 @@ use Rattle.rules.specs.Lists.{In}
 use Rattle.rules.specs.Machine.{Machine, Task, taskOf, freeTask, row, enqueue, dequeue, requeue, lowestAllowed, free, asleep, runnable, rr, fullSlice, cpuPlaces, taskPlaces, highestPriority}
 use Rattle.rules.specs.WellFormed.{WellFormed, Fit}
 use Rattle.rules.specs.Events.{Event, added, wakeCpu, woken, slept, reprioritised, reaffined, tickedTask, ticked, yielded, toFirst, event}
-use Rattle.rules.proofs.Lists.{in-here}
-use Rattle.rules.proofs.Apart.{fit-of, runnable-fit, runnable-place, row-in, in-row}
-use Rattle.rules.proofs.Effects.{lowest-good}
+use Rattle.laws.proofs.Lists.{in-here}
+use Rattle.laws.proofs.Apart.{fit-of, runnable-fit, runnable-place, row-in, in-row}
+use Rattle.laws.proofs.Effects.{lowest-good}
 use Rattle.rules.specs.Plan.{Plan, carried, rewrite, enter, leave, shift, withState, withPrio, withSlice, withMask, Doable, Carries}
 use Rattle.plans.specs.Decided.{asTask, Named, Runs, firstOf}
 use Rattle.plans.specs.declared.plan.Task.{Task as Columns}

@@ -14,7 +14,7 @@ use lib.Seq.{getD-set-same, getD-set-other, take-suc}
 use Rattle.bits.specs.Bit.{bit, withBit, digit}
 use Rattle.bits.proofs.Word.{bit-put-same, bit-put-other}
 use Rattle.rules.specs.Lists.{occ}
-use Rattle.rules.proofs.Lists.{same?, digit-same, digit-other, occ-nil, occ-cons, occ-append}
+use Rattle.laws.proofs.Lists.{same?, digit-same, digit-other, occ-nil, occ-cons, occ-append}
 use Rattle.rowcheck.specs.Placed.{marked, mark}
 
 pub digit-le : (b : Bool) → digit b ≤ 1

@@ -14,6 +14,7 @@ use Rattle.rules.specs.Tables.{rowsOf, padded, flatOf, storedRow, stored
 use Rattle.rules.specs.Entry.{checked, eventAnswer, made, handled}
 use Rattle.rules.specs.Cases.{Case, cases, used, seen, played}
 use Rattle.rules.specs.Sentences.{sentences}
+use Rattle.rules.specs.Demand3.{mostMoves}
 use Rattle.rules.specs.LentCases.{LentCase, lentCases, returned, FinderCase, finderCases, asked}
 
 pub all-cases : map seen cases ≡ map (λ (k : Case). k .expected) cases
@@ -36,3 +37,7 @@ pub all-found : map asked finderCases ≡ map (λ (k : FinderCase). k .expected)
 unfolding bit first tally packed levelFits fitFrom levelsFit same agrees consistent firstFailing sizeFits maskFits table maskAt countAt masksOf
     countsOf wordsOf allowedAt anyAt lowestLevel lowestFound findChecks found
 all-found = refl
+
+-- K5 takes 2 moves on 3 CPUs: the bound of demand 3 is reached
+pub bound-reached : mostMoves 3 ≡ 2
+bound-reached = refl

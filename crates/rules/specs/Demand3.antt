@@ -30,11 +30,15 @@ pub data Steps : Machine → List Move → Machine → Type 0 where
   none-left : {m : Machine} → next m ≡ none → Steps m [] m
   step : {m : Machine} {v : Move} {log : List Move} {end : Machine} → next m ≡ some v → Steps (migrate v m) log end → Steps m (v ∷ log) end
 
+-- the most migrations that an event on n CPUs takes; K5 takes so many
+abbrev pub mostMoves : ℕ → ℕ
+mostMoves n = n - 1
+
 -- `start` is the machine as the event's own effect leaves it, `count` the number reported, `log` the log's entries up to it, and `end` the
 -- machine with which the event ends
 pub record Demand3 (start : Machine) (count : ℕ) (log : List Move) (end : Machine) : Type 0 where
   -- at most N - 1 migrations
-  pub few : count ≤ start .n - 1
+  pub few : count ≤ mostMoves (start .n)
   -- no CPU receives two
   pub no-cpu-twice : (c : ℕ) → occ c (receivers log) ≤ 1
   -- no task moves twice

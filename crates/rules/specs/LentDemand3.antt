@@ -10,7 +10,7 @@ use Rattle.bits.specs.Bit.{bit}
 use Rattle.rules.specs.Machine.{Machine, prioOf, taskPlaces, runnable}
 use Rattle.rules.specs.Outcome.{entryWidth}
 use Rattle.rules.specs.Migration.{Move}
-use Rattle.rules.specs.Demand3.{Steps, movers, origins, receivers}
+use Rattle.rules.specs.Demand3.{mostMoves, Steps, movers, origins, receivers}
 use Rattle.rules.specs.Tables.{Tables, machineOf}
 
 -- entry i of the log: its mover, the CPU it waited on, its destination
@@ -40,7 +40,7 @@ pub record Entries (s : Tables) (vs : List Move) : Type 0 where
 -- `start` is the machine as the event's own effect leaves it, `moves` the number reported, and s the tables with which the event ends
 pub record LentDemand3 (n moves : ℕ) (start : Machine) (s : Tables) : Type 0 where
   -- at most N - 1 migrations
-  pub few : moves ≤ n - 1
+  pub few : moves ≤ mostMoves n
   -- no CPU receives two
   pub no-cpu-twice : (i j : ℕ) → i < j → j < moves → receiverAt s i ≢ receiverAt s j
   -- no task moves twice

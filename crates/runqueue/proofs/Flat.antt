@@ -8,7 +8,7 @@ use lib.ListN.{length, getD, set, take, drop, replicate}
 use lib.Seq.{take-at, drop-drop, getD-drop, getD-take}
 use Rattle.rules.specs.Machine.{taskPlaces}
 use Rattle.rules.specs.Tables.{nothing, rowsOf, padded, flatOf, rowCounts}
-use Rattle.rules.proofs.Tables.{Fitting, read-written, length-rowsOf, length-flat, flat-row, flat-set, counts-set}
+use Rattle.laws.proofs.Tables.{Fitting, read-written, length-rowsOf, length-flat, flat-row, flat-set, counts-set}
 use Rattle.runqueue.proofs.Places.{padded-in}
 use Rattle.runqueue.specs.Row.{HoldsRow}
 use Rattle.runqueue.specs.Table.{HoldsRows, rowAt, rowsWith}

@@ -14,7 +14,7 @@ use borrow.Author.Tests.{eqb-false, leb-true, leb-false}
 use Rattle.rules.specs.Lists.{In, place, insertBefore, delete}
 use Rattle.rules.specs.Machine.{taskPlaces}
 use Rattle.rules.specs.Tables.{nothing, padded}
-use Rattle.rules.proofs.Lists.{in-cons}
+use Rattle.laws.proofs.Lists.{in-cons}
 use Rattle.runqueue.specs.Row.{ahead}
 
 -- ---- where a task stands

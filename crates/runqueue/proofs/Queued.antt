@@ -12,9 +12,9 @@ use borrow.Author.Tests.{ltb-true, ltb-false}
 use Rattle.rules.specs.Lists.{In, place, insertBefore, delete}
 use Rattle.rules.specs.Machine.{taskPlaces}
 use Rattle.rules.specs.Tables.{nothing, padded}
-use Rattle.rules.proofs.Lists.{length-delete, length-insert}
-use Rattle.rules.proofs.Order.{place-lt}
-use Rattle.rules.proofs.Tables.{length-padded}
+use Rattle.laws.proofs.Lists.{length-delete, length-insert}
+use Rattle.laws.proofs.Order.{place-lt}
+use Rattle.laws.proofs.Tables.{length-padded}
 use Rattle.runqueue.specs.Row.{HoldsRow, Closed, Opened, ahead}
 use Rattle.runqueue.proofs.Places.{delete-before, delete-after, insert-before, insert-at, insert-after, ahead-le, padded-in, padded-out}
 use Rattle.runqueue.proofs.Shift.{stored}

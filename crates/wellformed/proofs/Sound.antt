@@ -10,7 +10,7 @@ use Rattle.bits.specs.Bit.{bit}
 use Rattle.rules.specs.Machine.{Task, free, asleep, runnable, fifo, rr, lowestPriority, highestPriority, fullSlice}
 use Rattle.cpupri.specs.Found.{maskFits}
 use Rattle.rules.specs.WellFormed.{zeros, fits}
-use Rattle.rules.proofs.Bools.{both}
+use Rattle.laws.proofs.Bools.{both}
 use Rattle.wellformed.specs.Passes.{soundWhen}
 
 module _ (placed : Bool) (n : ℕ) (τ : Task) where

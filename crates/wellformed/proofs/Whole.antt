@@ -20,12 +20,12 @@ use Rattle.rules.specs.Lists.{occ, In, each}
 use Rattle.rules.specs.Machine.{Machine, Task, taskOf, freeTask, prioOf, row, flag, rowLevel, levels, free, asleep, runnable, taskPlaces, cpuPlaces, highestPriority}
 use Rattle.rules.specs.WellFormed.{Shape, Fit, WellFormed, standing, zeros, fits, soundTask, soundRow, falls, tasks, wellFormed}
 use Rattle.rules.specs.Tables.{Tables, machineOf, Stored, storedRows, recordFits, tablesFit}
-use Rattle.rules.proofs.Bools.{both}
-use Rattle.rules.proofs.Lists.{same?, occ-nil, in-getD, falling-at}
-use Rattle.rules.proofs.Apart.{standing-home, standing-away, standing-means, standing-le, in-row, runnable-fit}
-use Rattle.rules.proofs.Test.{each-at, at-each, each-in, tasks-length, tasks-at, shape-shaped, test-well-formed}
-use Rattle.rules.proofs.Tables.{row-at, test-stored, stored-test}
-use Rattle.rules.proofs.Record.{length-levels, levels-below, levels-above}
+use Rattle.laws.proofs.Bools.{both}
+use Rattle.laws.proofs.Lists.{same?, occ-nil, in-getD, falling-at}
+use Rattle.laws.proofs.Apart.{standing-home, standing-away, standing-means, standing-le, in-row, runnable-fit}
+use Rattle.laws.proofs.Test.{each-at, at-each, each-in, tasks-length, tasks-at, shape-shaped, test-well-formed}
+use Rattle.laws.proofs.Tables.{row-at, test-stored, stored-test}
+use Rattle.laws.proofs.Record.{length-levels, levels-below, levels-above}
 use Rattle.rowcheck.specs.Placed.{marked, mark, above}
 use Rattle.wellformed.specs.Passes.{Rows, part, queue, standings, soundWhen, Columns}
 use Rattle.rowcheck.proofs.Marking.{digit-le}

@@ -8,7 +8,7 @@ use native.Mathlib.Omega.{arith}
 use borrow.Author.Tests.{le-leb, lt-leb, not-false}
 use Rattle.rules.specs.Machine.{Task, free, taskPlaces, lowestAllowed}
 use Rattle.rules.specs.Plan.{rewrite, shift, withMask}
-use Rattle.rules.proofs.Checks.{mask-good}
+use Rattle.laws.proofs.Checks.{mask-good}
 use Rattle.plans.specs.Decided.{asTask}
 use Rattle.plans.proofs.Answers.{fails-here, passes-here, none-left, tested-mask}
 use Rattle.plans.proofs.Plans.{replaced, is-in, not-in, used-fit, lowest-allowed, affinity-idle, affinity-same, affinity-moved}

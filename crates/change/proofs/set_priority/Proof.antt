@@ -10,7 +10,7 @@ use lib.Dec.{leb}
 use borrow.Author.Tests.{le-leb, lt-leb}
 use Rattle.rules.specs.Machine.{Task, free, runnable, taskPlaces, lowestPriority, highestPriority}
 use Rattle.rules.specs.Plan.{rewrite, shift, withPrio}
-use Rattle.rules.proofs.Checks.{between}
+use Rattle.laws.proofs.Checks.{between}
 use Rattle.plans.proofs.Answers.{fails-here, passes-here, none-left, tested}
 use Rattle.plans.proofs.Plans.{replaced, is-in, not-in, priority-idle, priority-same, priority-moved}
 use Rattle.change.proofs.set_priority.Statement.{statement}

@@ -8,7 +8,7 @@ use lib.Dec.{eqb, leb, ltb}
 use Rattle.cpupri.specs.Found.{sizeFits}
 use Rattle.rules.specs.Machine.{taskPlaces}
 use Rattle.rules.specs.Tables.{logPlaces}
-use Rattle.rules.proofs.Test.{size-good}
+use Rattle.laws.proofs.Test.{size-good}
 use Rattle.lenttables.specs.Lent.{sizesFit}
 use Rattle.lenttables.proofs.sizes_fit.Statement.{statement}
 use Rattle.lenttables.proofs.sizes_fit.Tie as tie

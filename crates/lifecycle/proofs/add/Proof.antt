@@ -13,7 +13,7 @@ use Rattle.bits.proofs.Search.{first-le}
 use Rattle.rules.specs.Machine.{free, asleep, taskPlaces, cpuPlaces, fullSlice, fifo, rr, lowestPriority, highestPriority}
 use Rattle.rules.specs.Events.{event, added}
 use Rattle.rules.specs.Plan.{rewrite}
-use Rattle.rules.proofs.Checks.{between, one-of, mask-good}
+use Rattle.laws.proofs.Checks.{between, one-of, mask-good}
 use Rattle.plans.proofs.Answers.{fails-here, passes-here, none-left, tested, tested-mask}
 use Rattle.plans.proofs.Plans.{replaced, is-in, not-in, state-other, rewritten, lowest-allowed}
 use Rattle.lifecycle.proofs.add.Statement.{statement}

@@ -12,8 +12,8 @@ use Rattle.cpupri.specs.Record.{recordOf}
 use Rattle.levels.specs.declared.record.Record.{Record}
 use Rattle.levels.proofs.Whole.{level-known}
 use Rattle.rules.specs.Machine.{Machine, row, prioOf, flag, levels, levelOf, rowLevel, enqueue, queued, taskPlaces, highestPriority}
-use Rattle.rules.proofs.Lists.{length-insert}
-use Rattle.rules.proofs.Rows.{row-same}
+use Rattle.laws.proofs.Lists.{length-insert}
+use Rattle.laws.proofs.Rows.{row-same}
 use Rattle.runqueue.specs.Table.{rowAt}
 use Rattle.runqueue.proofs.Flat.{rows-fit}
 use Rattle.placement.specs.Held.{Held, Entering}

@@ -5,7 +5,7 @@ use mathlib.Core.Bool.{true, false}
 use borrow.Author.Tests.{not-true, not-false}
 use Rattle.lenttables.specs.Lent.{nowTables}
 use Rattle.rules.specs.Tables.{Tables}
-use Rattle.rules.proofs.Entry.{lengths-shape}
+use Rattle.laws.proofs.Entry.{lengths-shape}
 use Rattle.checker.proofs.Answers.{checked-size, checked-form}
 use Rattle.checker.proofs.check.check.Statement.{statement}
 use Rattle.checker.proofs.check.check.Tie as tie

@@ -9,7 +9,7 @@ use mir.Val.{Fits}
 use mathlib.Core.List.{[]}
 use borrow.Author.Tests.{not-true, not-false}
 use Rattle.bits.proofs.Tests.{and-both, fails}
-use Rattle.rules.proofs.Bools.{both}
+use Rattle.laws.proofs.Bools.{both}
 use Rattle.cpupri.specs.Consistent.{Sized}
 use Rattle.rules.specs.Tables.{Tables, tablesFit}
 use Rattle.lenttables.specs.Lent.{lent}

@@ -4,7 +4,7 @@ use mathlib.Core.Path.{sym, _∙_}
 use borrow.Author.Tests.{not-true, not-false}
 use Rattle.lenttables.specs.Lent.{lent, nowTables, sizesFit}
 use Rattle.rules.specs.Tables.{Tables}
-use Rattle.rules.proofs.Entry.{lengths-shape, made-refused}
+use Rattle.laws.proofs.Entry.{lengths-shape, made-refused}
 use Rattle.checker.proofs.Answers.{made-blank}
 use Rattle.checker.proofs.fresh.make_fresh.Statement.{statement}
 use Rattle.checker.proofs.fresh.make_fresh.Tie as tie

@@ -9,10 +9,10 @@ use Rattle.rules.specs.Lists.{In, delete}
 use Rattle.rules.specs.Machine.{Machine, row, levels, dequeue}
 use Rattle.rules.specs.Migration.{Move, Chosen}
 use Rattle.rules.specs.Tables.{flatOf, rowCounts}
-use Rattle.rules.proofs.Apart.{runnable-fit, runnable-place}
-use Rattle.rules.proofs.Choice.{chosen}
-use Rattle.rules.proofs.Room.{room-step}
-use Rattle.rules.proofs.Step.{origin-small}
+use Rattle.laws.proofs.Apart.{runnable-fit, runnable-place}
+use Rattle.laws.proofs.Choice.{chosen}
+use Rattle.laws.proofs.Room.{room-step}
+use Rattle.laws.proofs.Step.{origin-small}
 use Rattle.runqueue.specs.Table.{rowAt, rowsWith}
 use Rattle.placement.specs.Held.{Held, Entering}
 use Rattle.placement.proofs.Joining.{can-leave, has-left}

@@ -15,9 +15,9 @@ use Rattle.levels.specs.declared.record.Record.{Record}
 use Rattle.rules.specs.Machine.{Machine, taskPlaces}
 use Rattle.rules.specs.Migration.{Chosen}
 use Rattle.rules.specs.WellFormed.{WellFormed}
-use Rattle.rules.proofs.Choice.{chosen}
-use Rattle.rules.proofs.Step.{origin-small}
-use Rattle.rules.proofs.Apart.{runnable-place}
+use Rattle.laws.proofs.Choice.{chosen}
+use Rattle.laws.proofs.Step.{origin-small}
+use Rattle.laws.proofs.Apart.{runnable-place}
 use Rattle.mover.specs.Foremost.{Looking, Foremost, BestOf}
 use Rattle.migration.specs.Settling.{Settling}
 use Rattle.mover.specs.declared.pick.Mover.{Mover}

@@ -10,8 +10,8 @@ use native.Mathlib.Omega.{arith}
 use lib.ListN.{length, getD, take, drop}
 use Rattle.rules.specs.Lists.{In}
 use Rattle.rules.specs.Machine.{Machine, row}
-use Rattle.rules.proofs.Lists.{not-in-nil, in-getD}
-use Rattle.rules.proofs.Order.{place-lt, place-is}
+use Rattle.laws.proofs.Lists.{not-in-nil, in-getD}
+use Rattle.laws.proofs.Order.{place-lt, place-is}
 use Rattle.rules.specs.Lists.{place}
 use Rattle.runqueue.specs.Row.{ahead}
 use Rattle.runqueue.specs.Table.{rowAt}

@@ -11,7 +11,7 @@ use lib.ListN.{length, getD, take}
 use lib.Seq.{getD-take, length-take-le}
 use borrow.Author.Tests.{lt-ltb, le-ltb, eqb-true, eqb-false, leb-true, leb-false}
 use Rattle.bits.proofs.Tests.{and-both}
-use Rattle.rules.proofs.Lists.{falling-at}
+use Rattle.laws.proofs.Lists.{falling-at}
 use Rattle.runqueue.specs.Row.{ahead}
 use Rattle.runqueue.proofs.Places.{ahead-is}
 use Rattle.mover.specs.Wanted.{findable, wanted, Searchable}

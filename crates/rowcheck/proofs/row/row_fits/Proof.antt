@@ -6,7 +6,7 @@ use native.Mathlib.Omega.{arith}
 use borrow.Author.Tests.{leb-true, le-leb, not-true, not-false}
 use lib.Dec.{leb}
 use Rattle.bits.proofs.Tests.{and-both}
-use Rattle.rules.proofs.Bools.{both}
+use Rattle.laws.proofs.Bools.{both}
 use Rattle.rowcheck.proofs.Saying.{say, yes, no, said, never}
 use Rattle.rowcheck.proofs.row.row_fits.Statement.{statement}
 use Rattle.rowcheck.proofs.row.row_fits.Tie as tie

@@ -6,7 +6,7 @@ use native.Mathlib.Omega.{arith}
 use borrow.Author.Tests.{leb-true, eqb-true, eq-eqb, le-leb}
 use lib.Dec.{eqb, leb}
 use Rattle.bits.proofs.Tests.{and-both}
-use Rattle.rules.proofs.Bools.{both}
+use Rattle.laws.proofs.Bools.{both}
 use Rattle.rowcheck.proofs.Saying.{say}
 use Rattle.rowcheck.proofs.row.stands.Statement.{statement}
 use Rattle.rowcheck.proofs.row.stands.Tie as tie

@@ -11,7 +11,7 @@ use native.Mathlib.Numerals.{add-one}
 use borrow.Author.Count.{below-more}
 use Rattle.bits.specs.Bit.{digit}
 use Rattle.rules.specs.Lists.{occ}
-use Rattle.rules.proofs.Lists.{digit-same, occ-nil}
+use Rattle.laws.proofs.Lists.{digit-same, occ-nil}
 use Rattle.rowcheck.specs.Placed.{marked, mark, above, Stands, AllStand, Marks}
 use Rattle.rowcheck.proofs.Saying.{yes, no, never}
 use Rattle.rowcheck.proofs.Marking.{digit-le, occ-take, occ-grows}

@@ -10,7 +10,7 @@ use lib.ListN.{length, getD, take, length-take}
 use lib.Seq.{getD-take}
 use lib.Dec.{leb}
 use Rattle.rules.specs.Lists.{In, place}
-use Rattle.rules.proofs.Order.{place-lt, place-is}
+use Rattle.laws.proofs.Order.{place-lt, place-is}
 use Rattle.runqueue.proofs.Places.{place-before}
 use Rattle.runqueue.proofs.row.position.Statement.{statement}
 use Rattle.runqueue.proofs.row.position.Tie as tie

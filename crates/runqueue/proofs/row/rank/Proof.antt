@@ -9,7 +9,7 @@ use lib.Seq.{getD-take, length-take-le}
 use lib.Dec.{ltb, leb}
 use borrow.Author.Tests.{lt-ltb, le-ltb, leb-true, leb-false}
 use mathlib.Core.Path.{subst}
-use Rattle.rules.proofs.Lists.{falling-at}
+use Rattle.laws.proofs.Lists.{falling-at}
 use Rattle.rules.specs.Lists.{Falling}
 use Rattle.runqueue.specs.Row.{ahead}
 use Rattle.runqueue.proofs.Places.{ahead-is}

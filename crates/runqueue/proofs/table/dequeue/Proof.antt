@@ -8,7 +8,7 @@ use native.Mathlib.Omega.{arith}
 use lib.ListN.{length, getD, set}
 use Rattle.rules.specs.Lists.{In, delete}
 use Rattle.rules.specs.Tables.{padded}
-use Rattle.rules.proofs.Lists.{length-delete}
+use Rattle.laws.proofs.Lists.{length-delete}
 use Rattle.runqueue.specs.Table.{rowAt}
 use Rattle.runqueue.proofs.Flat.{count-is, rows-fit, counts-become, lent-held, lent-row, lent-become}
 use Rattle.runqueue.proofs.table.dequeue.Statement.{statement}

@@ -10,7 +10,7 @@ use lib.Seq.{getD-take}
 use Rattle.rules.specs.Lists.{In, Falling}
 use Rattle.rules.specs.Machine.{queued}
 use Rattle.rules.specs.Tables.{padded}
-use Rattle.rules.proofs.Lists.{in-getD, length-insert}
+use Rattle.laws.proofs.Lists.{in-getD, length-insert}
 use Rattle.runqueue.specs.Table.{rowAt}
 use Rattle.runqueue.proofs.Flat.{count-is, rows-fit, counts-become, lentPart, lent-held, lent-row, lent-become}
 use Rattle.runqueue.proofs.table.enqueue.Statement.{statement}

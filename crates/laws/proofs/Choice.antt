@@ -8,15 +8,15 @@ use Prim.Native.Nat.{ℕ, suc, _≤_, _<_}
 use native.Mathlib.Omega.{arith}
 use lib.ListN.{length}
 use borrow.Author.Tests.{ltb-true, ltb-false, lt-ltb, le-ltb}
 use Rattle.rules.specs.Lists.{occ, In, place, below, best}
 use Rattle.rules.specs.Machine.{Machine, taskOf, prioOf, row, level, levelOf, allowed, runnable}
 use Rattle.rules.specs.WellFormed.{WellFormed}
 use Rattle.rules.specs.Migration.{Move, Chosen, waiting, allowedCpus, lower, movable, movables, outranks, mover, idler, destination, orZero, moveOf, nextOf, next}
-use Rattle.rules.proofs.Lists.{occ-cons, digit-same, in-there, not-in-nil, in-below, below-in, select-in, in-select}
-use Rattle.rules.proofs.Lists.{any-some, some-any, in-tails, tails-in}
-use Rattle.rules.proofs.Best.{Ranks, best-in, best-best, best-first, best-none, best-some}
-use Rattle.rules.proofs.Order.{place-there, place-same, place-from, place-select, place-tails}
-use Rattle.rules.proofs.Apart.{in-row, once}
+use Rattle.laws.proofs.Lists.{occ-cons, digit-same, in-there, not-in-nil, in-below, below-in, select-in, in-select}
+use Rattle.laws.proofs.Lists.{any-some, some-any, in-tails, tails-in}
+use Rattle.laws.proofs.Best.{Ranks, best-in, best-best, best-first, best-none, best-some}
+use Rattle.laws.proofs.Order.{place-there, place-same, place-from, place-select, place-tails}
+use Rattle.laws.proofs.Apart.{in-row, once}
 
 -- ---- allowed CPUs
 

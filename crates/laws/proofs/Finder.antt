@@ -16,11 +16,11 @@ use Rattle.cpupri.specs.Level.{levelCount}
 use Rattle.cpupri.specs.Record.{masksOf}
 use Rattle.cpupri.specs.Found.{allowedAt, lowestLevel}
 use Rattle.cpupri.proofs.Found.{LowestCpu, found-some, found-cpu, cpu-level}
 use Rattle.rules.specs.Machine.{Machine, taskOf, prioOf, level, levelOf, levels, allowed, cpuPlaces, highestPriority}
 use Rattle.rules.specs.WellFormed.{WellFormed, Fit}
 use Rattle.rules.specs.Migration.{movable, destination}
-use Rattle.rules.proofs.Choice.{movable-one, movable-by, Target, target-of, target-same}
-use Rattle.rules.proofs.Record.{length-levels, levels-below}
+use Rattle.laws.proofs.Choice.{movable-one, movable-by, Target, target-of, target-same}
+use Rattle.laws.proofs.Record.{length-levels, levels-below}
 
 module _ (m : Machine) (w : WellFormed m) (t : ℕ) (fit : Fit (m .n) (taskOf m t)) where
   abbrev mask : ℕ

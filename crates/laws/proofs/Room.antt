@@ -4,13 +4,13 @@ use mathlib.Core.Path.{_≡_}
 use mathlib.Core.Option.{some}
 use Prim.Native.Nat.{ℕ, _≤_, _<_}
 use lib.ListN.{length}
 use Rattle.rules.specs.Machine.{Machine, row, taskPlaces, dequeue}
 use Rattle.rules.specs.WellFormed.{WellFormed}
 use Rattle.rules.specs.Migration.{Move, next}
-use Rattle.rules.proofs.Lists.{pigeonhole}
-use Rattle.rules.proofs.Apart.{in-row, once, runnable-place}
-use Rattle.rules.proofs.Choice.{chosen}
-use Rattle.rules.proofs.Step.{step-room}
+use Rattle.laws.proofs.Lists.{pigeonhole}
+use Rattle.laws.proofs.Apart.{in-row, once, runnable-place}
+use Rattle.laws.proofs.Choice.{chosen}
+use Rattle.laws.proofs.Step.{step-room}
 
 -- W3's counts: no row has more than 512 tasks
 pub row-fits : (m : Machine) (c : ℕ) → WellFormed m → length (row m c) ≤ taskPlaces

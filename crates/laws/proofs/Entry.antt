@@ -12,27 +12,27 @@ use borrow.Author.Tests.{eqb-true, eq-eqb, not-false}
 use Rattle.bits.proofs.Tests.{and-both}
 use Rattle.cpupri.specs.Record.{recordOf, freshLevels}
 use Rattle.levels.specs.declared.record.Record.{Record}
 use Rattle.rules.specs.Machine.{Machine, Column, taskOf, row, fresh, levels, taskPlaces, cpuPlaces, runnable, rr, fullSlice}
 use Rattle.rules.specs.Machine.{allows, lowestAllowed, store, enqueue, dequeue, requeue}
 use Rattle.rules.specs.WellFormed.{Shape, WellFormed, wellFormed}
 use Rattle.rules.specs.Events.{Event, Kind, effect, effectOf, tickedTask, toFirst}
 use Rattle.rules.specs.Events.{add, remove, wake, sleep, set-priority, set-affinity, tick, yield, set-ordinary}
 use Rattle.rules.specs.Refusals.{Passes, refusal, firstFailing, badSize, illFormed}
 use Rattle.rules.specs.Outcome.{Outcome, outcome, logged}
 use Rattle.rules.specs.Demand3.{Demand3}
 use Rattle.rules.specs.Tables.{Tables, machineOf, tablesOf, lengthsFit, tablesFit, recordFits, flatOf, rowCounts, storedRows, nothing, logPlaces}
 use Rattle.rules.specs.Entry.{Good, Result, kept, written, sizeCheck, formCheck, checked, eventAnswer, made, madeBy, handled, handledBy}
-use Rattle.rules.proofs.Bools.{both}
-use Rattle.rules.proofs.Apart.{in-row, runnable-place}
-use Rattle.rules.proofs.Checks.{Accepted, accepted-checks, effect-is, outcome-accepted, outcome-moves, passes, passed}
-use Rattle.rules.proofs.Effects.{fresh-well-formed}
-use Rattle.rules.proofs.Runs.{settle-run, run-n}
-use Rattle.rules.proofs.Demand3.{demand3, keep-outcome}
-use Rattle.rules.proofs.Room.{row-fits}
-use Rattle.rules.proofs.Test.{size-good, good-size, shape-shaped, test-well-formed, well-formed-test}
-use Rattle.rules.proofs.Tables.{length-rowsOf, Fitting, length-flat, read-written, written-stored, test-stored, stored-test}
-use Rattle.rules.proofs.Record.{record-is, is-record, levels-fresh}
-use Rattle.rules.proofs.Log.{length-logged}
+use Rattle.laws.proofs.Bools.{both}
+use Rattle.laws.proofs.Apart.{in-row, runnable-place}
+use Rattle.laws.proofs.Checks.{Accepted, accepted-checks, effect-is, outcome-accepted, outcome-moves, passes, passed}
+use Rattle.laws.proofs.Effects.{fresh-well-formed}
+use Rattle.laws.proofs.Runs.{settle-run, run-n}
+use Rattle.laws.proofs.Demand3.{demand3, keep-outcome}
+use Rattle.laws.proofs.Room.{row-fits}
+use Rattle.laws.proofs.Test.{size-good, good-size, shape-shaped, test-well-formed, well-formed-test}
+use Rattle.laws.proofs.Tables.{length-rowsOf, Fitting, length-flat, read-written, written-stored, test-stored, stored-test}
+use Rattle.laws.proofs.Record.{record-is, is-record, levels-fresh}
+use Rattle.laws.proofs.Log.{length-logged}
 
 -- ---- what the check says
 

@@ -13,19 +13,19 @@ use borrow.Author.Tests.{eqb-true, eqb-false, leb-true, ltb-true, ltb-false, not
 use Rattle.bits.specs.Bit.{bit, first, tally}
 use Rattle.bits.proofs.Search.{first-holds, first-before, zero-of-bits}
 use Rattle.cpupri.specs.Found.{maskFits}
 use Rattle.rules.specs.Lists.{occ, In, Falling}
 use Rattle.rules.specs.Machine.{Machine, Task, Column, taskOf, freeTask, prioOf, row, flag, allowed, allows, lowestAllowed, fresh}
 use Rattle.rules.specs.Machine.{free, asleep, runnable, fifo, rr, taskPlaces, cpuPlaces, fullSlice, lowestPriority, highestPriority}
 use Rattle.rules.specs.Machine.{store, write, withFlag, enqueue, dequeue, requeue}
 use Rattle.rules.specs.WellFormed.{Shape, Fit, Sound, is-free, is-asleep, is-runnable, standing, WellFormed}
 use Rattle.rules.specs.Events.{Event, Kind, effect, effectOf, added, wakeCpu, woken, slept, reprioritised, reaffined, tickedTask, ticked, yielded, toFirst}
 use Rattle.rules.specs.Events.{add, remove, wake, sleep, set-priority, set-affinity, tick, yield, set-ordinary}
 use Rattle.rules.specs.Refusals.{Passes, checks, refusal}
-use Rattle.rules.proofs.Lists.{same?, in-here}
-use Rattle.rules.proofs.Rows.{put, store-other, store-same, write-same, shape-store}
-use Rattle.rules.proofs.Apart.{Apart, apart-idle, apart-dequeue, apart-store, apart-write, rejoin-idle, rejoin-enqueue}
-use Rattle.rules.proofs.Apart.{fit-of, runnable-place, runnable-fit, in-row}
-use Rattle.rules.proofs.Checks.{Accepted, accepted-checks, effect-is, in-range, is-state, between, one-of, mask-good}
+use Rattle.laws.proofs.Lists.{same?, in-here}
+use Rattle.laws.proofs.Rows.{put, store-other, store-same, write-same, shape-store}
+use Rattle.laws.proofs.Apart.{Apart, apart-idle, apart-dequeue, apart-store, apart-write, rejoin-idle, rejoin-enqueue}
+use Rattle.laws.proofs.Apart.{fit-of, runnable-place, runnable-fit, in-row}
+use Rattle.laws.proofs.Checks.{Accepted, accepted-checks, effect-is, in-range, is-state, between, one-of, mask-good}
 
 -- ---- a fresh machine
 

@@ -14,21 +14,21 @@ use lib.ListN.{length, getD, drop, length-map, List·getD-map}
 use lib.Seq.{getD-take, getD-drop}
 use Rattle.bits.specs.Bit.{bit}
 use Rattle.levels.specs.declared.record.Record.{Record}
 use Rattle.rules.specs.Lists.{occ, In, place}
 use Rattle.rules.specs.Machine.{Machine, taskOf, prioOf, row, head, running, taskPlaces, runnable}
 use Rattle.rules.specs.Events.{Event, effect}
 use Rattle.rules.specs.Migration.{Move, waiting}
 use Rattle.rules.specs.Outcome.{outcome, logged, entryWidth}
 use Rattle.rules.specs.Demand3.{Demand3, Outdone, movers, receivers}
 use Rattle.rules.specs.Tables.{Tables, machineOf, rowsOf}
 use Rattle.rules.specs.Entry.{Good, Result, eventAnswer, handled}
 use Rattle.rules.specs.LentDemand3.{LentDemand3, Entries, moverAt, receiverAt, taskAt, Busy}
-use Rattle.rules.proofs.Lists.{in-getD, in-tails, occ-cons, digit-same, falling-at}
-use Rattle.rules.proofs.Order.{place-is, place-lt}
-use Rattle.rules.proofs.Apart.{in-row, row-in, once, runnable-fit}
-use Rattle.rules.proofs.Tables.{row-at, write-read, stored-test}
-use Rattle.rules.proofs.Log.{logged-entry, noMove}
-use Rattle.rules.proofs.Entry.{handled-good, handled-demand3, handled-moves, handled-log, start-n}
+use Rattle.laws.proofs.Lists.{in-getD, in-tails, occ-cons, digit-same, falling-at}
+use Rattle.laws.proofs.Order.{place-is, place-lt}
+use Rattle.laws.proofs.Apart.{in-row, row-in, once, runnable-fit}
+use Rattle.laws.proofs.Tables.{row-at, write-read, stored-test}
+use Rattle.laws.proofs.Log.{logged-entry, noMove}
+use Rattle.laws.proofs.Entry.{handled-good, handled-demand3, handled-moves, handled-log, start-n}
 
 -- ---- lists by their places
 

@@ -11,13 +11,13 @@ use lib.Dec.{eqb, ltb}
 use lib.ListN.{length, List·getD-eq-default}
 use borrow.Author.Tests.{eq-eqb, ne-eqb, ltb-true, ltb-false}
 use Rattle.bits.specs.Bit.{digit}
 use Rattle.rules.specs.Lists.{occ, In, Falling, insertBefore, delete}
 use Rattle.rules.specs.Machine.{Machine, Task, Column, taskOf, freeTask, prioOf, row, flag, allowed, allows, runnable, taskPlaces}
 use Rattle.rules.specs.Machine.{store, write, withRow, queued, enqueue, dequeue}
 use Rattle.rules.specs.WellFormed.{Shape, Fit, Sound, is-free, is-asleep, is-runnable, standing, WellFormed}
-use Rattle.rules.proofs.Lists.{same?, digit-same, digit-other, occ-cons, in-cons, not-in-nil, occ-insert, occ-delete}
-use Rattle.rules.proofs.Lists.{falling-delete, falling-head, falling-cong, pigeonhole}
-use Rattle.rules.proofs.Rows.{row-cases, put, store-other, store-same, write-other, shape-store, shape-write, shape-row}
+use Rattle.laws.proofs.Lists.{same?, digit-same, digit-other, occ-cons, in-cons, not-in-nil, occ-insert, occ-delete}
+use Rattle.laws.proofs.Lists.{falling-delete, falling-head, falling-cong, pigeonhole}
+use Rattle.laws.proofs.Rows.{row-cases, put, store-other, store-same, write-other, shape-store, shape-write, shape-row}
 
 -- ---- where a task has to stand
 

@@ -10,21 +10,21 @@ use native.Mathlib.Omega.{arith}
 use lib.Dec.{ltb}
 use lib.ListN.{length}
 use borrow.Author.Tests.{ltb-true, ltb-false}
 use Rattle.rules.specs.Lists.{In, occ}
 use Rattle.rules.specs.Machine.{Machine, taskOf, prioOf, row, level, levelOf, allowed, runnable, fresh, cpuPlaces}
 use Rattle.rules.specs.WellFormed.{WellFormed}
 use Rattle.rules.specs.Events.{Event, effect}
 use Rattle.rules.specs.Refusals.{refusal}
 use Rattle.rules.specs.Migration.{Move, waiting, next, settleAll}
 use Rattle.rules.specs.Outcome.{Outcome, outcome, answered}
 use Rattle.rules.specs.Cases.{played}
 use Rattle.rules.specs.Demand3.{Demand3, Steps, none-left, Outdone}
-use Rattle.rules.proofs.Checks.{outcome-accepted}
-use Rattle.rules.proofs.Effects.{keep-effect, fresh-well-formed}
-use Rattle.rules.proofs.Choice.{movable-by, none-movable}
-use Rattle.rules.proofs.Step.{running-level}
-use Rattle.rules.proofs.Runs.{Run, out, stop, step, settle-run, settle-ends, run-few, run-movers, run-receivers, run-falling, run-well-formed}
-use Rattle.rules.proofs.Apart.{standing-home, standing-away, runnable-fit}
+use Rattle.laws.proofs.Checks.{outcome-accepted}
+use Rattle.laws.proofs.Effects.{keep-effect, fresh-well-formed}
+use Rattle.laws.proofs.Choice.{movable-by, none-movable}
+use Rattle.laws.proofs.Step.{running-level}
+use Rattle.laws.proofs.Runs.{Run, out, stop, step, settle-run, settle-ends, run-few, run-movers, run-receivers, run-falling, run-well-formed}
+use Rattle.laws.proofs.Apart.{standing-home, standing-away, runnable-fit}
 
 -- where no task is movable, no waiting task is higher than what runs on a CPU it is allowed
 pub nothing-movable : (m : Machine) → WellFormed m → next m ≡ none → (t c : ℕ) → In t (waiting m) → c < m .n → allowed m t c ≡ true → Outdone m t c

@@ -7,9 +7,9 @@ use mathlib.Core.List.{List, [], _∷_}
 use mathlib.Core.Option.{none, some}
 use Prim.Native.Nat.{ℕ, _≤_}
 use native.Mathlib.Omega.{arith}
 use Rattle.rules.specs.Lists.{In, place, bestFrom, best}
-use Rattle.rules.proofs.Lists.{same?, in-here, in-there, in-cons, not-in-nil}
-use Rattle.rules.proofs.Order.{place-here, place-there, place-zero}
+use Rattle.laws.proofs.Lists.{same?, in-here, in-there, in-cons, not-in-nil}
+use Rattle.laws.proofs.Order.{place-here, place-there, place-zero}
 
 -- a test that ranks: R x y says that x is at least as good as y
 pub record Ranks (beats : ℕ → ℕ → Bool) (R : ℕ → ℕ → Type 0) : Type 0 where

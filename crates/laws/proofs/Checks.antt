@@ -11,14 +11,14 @@ use native.Mathlib.Omega.{arith}
 use lib.ListN.{length, getElem?}
 use lib.Dec.{eqb, leb, ltb}
 use borrow.Author.Tests.{eqb-true, leb-true, leb-false, ltb-true, lt-ltb, not-false}
 use Rattle.rules.specs.Machine.{Machine}
 use Rattle.rules.specs.Events.{Event, Kind, kinds, kindOf, byKind, effect, effectOf}
 use Rattle.rules.specs.Events.{add, remove, wake, sleep, set-priority, set-affinity, tick, yield, set-ordinary}
 use Rattle.cpupri.specs.Found.{maskFits}
 use Rattle.rules.specs.Refusals.{Check, firstFailing, Passes, noKind, checks, refusal}
 use Rattle.rules.specs.Outcome.{outcome, answered, accepted, refused}
 use Rattle.bits.proofs.Tests.{and-both}
-use Rattle.rules.proofs.Bools.{both}
+use Rattle.laws.proofs.Bools.{both}
 
 -- ---- the first that fails
 

@@ -6,10 +6,10 @@ use mathlib.Core.List.{List, []}
 use Prim.Native.Nat.{ℕ, _<_}
 use lib.ListN.{length, length-set}
 use lib.Seq.{getD-set-same, getD-set-other}
 use Rattle.rules.specs.Machine.{Machine, Task, Column, taskOf, row, store, write, withRow, taskPlaces}
 use Rattle.rules.specs.Machine.{state, policy, prio, cpu, slice, mask}
 use Rattle.rules.specs.WellFormed.{Shape}
-use Rattle.rules.proofs.Lists.{same?}
+use Rattle.laws.proofs.Lists.{same?}
 
 -- ---- rows
 

@@ -18,13 +18,13 @@ use Rattle.cpupri.specs.Consistent.{consistent, levelsFit, levelFits, agrees, s
 use Rattle.levels.specs.declared.record.Record.{Record}
 use Rattle.consistency.proofs.Agrees.{same-is, same-refl, agrees-of, fit-all, below-fits, above-fits, consistent-whole}
 use Rattle.levels.proofs.Fresh.{length-fresh, fresh-below, fresh-above}
 use Rattle.rules.specs.Lists.{In, from, below}
 use Rattle.rules.specs.Machine.{Machine, taskOf, prioOf, row, flag, rowLevel, level, levels, invalid, cpuPlaces, highestPriority, lowestPriority, fresh}
 use Rattle.rules.specs.WellFormed.{WellFormed, Fit}
 use Rattle.rules.specs.Tables.{recordFits}
-use Rattle.rules.proofs.Bools.{both}
-use Rattle.rules.proofs.Lists.{length-from, in-here}
-use Rattle.rules.proofs.Apart.{in-row, runnable-fit}
+use Rattle.laws.proofs.Bools.{both}
+use Rattle.laws.proofs.Lists.{length-from, in-here}
+use Rattle.laws.proofs.Apart.{in-row, runnable-fit}
 
 -- ---- the levels, place by place
 

@@ -10,17 +10,17 @@ use native.Mathlib.Omega.{arith}
 use lib.Dec.{eqb, leb, ltb}
 use lib.ListN.{length, getD, List·getD-eq-default}
 use borrow.Author.Tests.{eqb-true, eq-eqb, ne-eqb, leb-true, le-leb, ltb-true, ltb-false, lt-ltb}
 use Rattle.rules.specs.Lists.{occ, In, Falling, each}
 use Rattle.rules.specs.Machine.{Machine, Task, taskOf, freeTask, prioOf, row, flag, allows, free, asleep, runnable, fifo, rr, taskPlaces, cpuPlaces}
 use Rattle.rules.specs.Machine.{lowestPriority, highestPriority, fullSlice}
 use Rattle.rules.specs.WellFormed.{Shape, Fit, Sound, is-free, is-asleep, is-runnable, standing, WellFormed}
 use Rattle.rules.specs.WellFormed.{shaped, gathered, tasks, zeros, fits, soundTask, falls, soundRow, wellFormed}
 use Rattle.cpupri.specs.Found.{sizeFits}
 use Rattle.bits.proofs.Tests.{and-both}
-use Rattle.rules.proofs.Bools.{both}
-use Rattle.rules.proofs.Checks.{mask-good, good-mask}
-use Rattle.rules.proofs.Lists.{in-here, in-there, in-cons, not-in-nil}
-use Rattle.rules.proofs.Apart.{shaped-place, standing-home, standing-means, in-row}
+use Rattle.laws.proofs.Bools.{both}
+use Rattle.laws.proofs.Checks.{mask-good, good-mask}
+use Rattle.laws.proofs.Lists.{in-here, in-there, in-cons, not-in-nil}
+use Rattle.laws.proofs.Apart.{shaped-place, standing-home, standing-means, in-row}
 
 -- ---- walks
 

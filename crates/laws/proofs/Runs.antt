@@ -8,16 +8,16 @@ use Prim.Native.Nat.{ℕ, zero, suc, _≤_, _<_}
 use native.Mathlib.Nat.{not-suc-le-zero, le-of-suc-le-suc}
 use native.Mathlib.Omega.{arith}
 use lib.ListN.{length, getD, length-map}
 use Rattle.rules.specs.Lists.{occ, In, Falling}
 use Rattle.rules.specs.Machine.{Machine, taskOf, prioOf, row, head, running, level, levelOf}
 use Rattle.rules.specs.WellFormed.{WellFormed}
 use Rattle.rules.specs.Migration.{Move, Chosen, Settled, onward, next, migrate, settle, settleAll}
 use Rattle.rules.specs.Demand3.{movers, receivers}
-use Rattle.rules.proofs.Lists.{same?, digit-same, digit-other, occ-cons, occ-nil, in-here, in-cons, not-in-nil, in-tails, pigeonhole}
-use Rattle.rules.proofs.Apart.{in-row, once}
-use Rattle.rules.proofs.Choice.{chosen}
-use Rattle.rules.proofs.Step.{Cap, cap-step, keep-step, origin-small, origin-level, target-level, target-runs, same-runs, levels-rise}
-use Rattle.rules.proofs.Step.{level-running}
+use Rattle.laws.proofs.Lists.{same?, digit-same, digit-other, occ-cons, occ-nil, in-here, in-cons, not-in-nil, in-tails, pigeonhole}
+use Rattle.laws.proofs.Apart.{in-row, once}
+use Rattle.laws.proofs.Choice.{chosen}
+use Rattle.laws.proofs.Step.{Cap, cap-step, keep-step, origin-small, origin-level, target-level, target-runs, same-runs, levels-rise}
+use Rattle.laws.proofs.Step.{level-running}
 
 -- `Run k m l e`: from m, with at most k steps, the steps l lead to e, where none applies or the k are used up
 pub data Run : ℕ → Machine → List Move → Machine → Type 0 where

@@ -10,17 +10,17 @@ use native.Mathlib.Omega.{arith}
 use lib.Dec.{ltb}
 use lib.ListN.{length}
 use borrow.Author.Tests.{lt-ltb}
 use Rattle.rules.specs.Lists.{occ, In, Falling, below, insertBefore, delete}
 use Rattle.rules.specs.Machine.{Machine, taskOf, prioOf, row, flag, head, running, rowLevel, level, levelOf, allowed, taskPlaces}
 use Rattle.rules.specs.Machine.{queued, enqueue, dequeue}
 use Rattle.rules.specs.WellFormed.{WellFormed}
 use Rattle.rules.specs.Migration.{Move, Chosen, waiting, movable, migrate}
-use Rattle.rules.proofs.Lists.{same?, occ-cons, digit-same, in-cons, not-in-nil, in-delete, delete-behind}
-use Rattle.rules.proofs.Lists.{in-tails, tails-in}
-use Rattle.rules.proofs.Choice.{movable-by, movable-one}
-use Rattle.rules.proofs.Rows.{row-same, row-other}
-use Rattle.rules.proofs.Apart.{once, runnable-place, runnable-fit, room}
-use Rattle.rules.proofs.Effects.{keep-move, apart-home}
+use Rattle.laws.proofs.Lists.{same?, occ-cons, digit-same, in-cons, not-in-nil, in-delete, delete-behind}
+use Rattle.laws.proofs.Lists.{in-tails, tails-in}
+use Rattle.laws.proofs.Choice.{movable-by, movable-one}
+use Rattle.laws.proofs.Rows.{row-same, row-other}
+use Rattle.laws.proofs.Apart.{once, runnable-place, runnable-fit, room}
+use Rattle.laws.proofs.Effects.{keep-move, apart-home}
 
 -- ---- what a level says
 

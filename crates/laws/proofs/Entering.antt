@@ -8,10 +8,10 @@ use Prim.Native.Nat.{ℕ, _≤_, _<_}
 use native.Mathlib.Omega.{arith}
 use lib.Dec.{ltb}
 use borrow.Author.Tests.{ltb-true, ltb-false}
 use Rattle.rules.specs.Lists.{In, place, Falling, insertBefore}
 use Rattle.rules.specs.Machine.{queued}
-use Rattle.rules.proofs.Lists.{same?, in-here, in-there, in-cons, not-in-nil, falling-head}
-use Rattle.rules.proofs.Order.{place-here, place-there}
+use Rattle.laws.proofs.Lists.{same?, in-here, in-there, in-cons, not-in-nil, falling-head}
+use Rattle.laws.proofs.Order.{place-here, place-there}
 
 -- task t has entered the row r′: where each other task u stands
 pub record Entered (p : ℕ → ℕ) (t u : ℕ) (r′ : List ℕ) : Type 0 where

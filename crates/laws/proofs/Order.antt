@@ -9,8 +9,8 @@ use native.Mathlib.Omega.{arith}
 use lib.Dec.{eqb}
 use lib.ListN.{length, getD}
 use borrow.Author.Tests.{eq-eqb, ne-eqb, eqb-true, eqb-false}
 use Rattle.rules.specs.Lists.{In, place, from, select, joined}
-use Rattle.rules.proofs.Lists.{same?, in-here, in-there, in-cons, not-in-nil, from-in}
+use Rattle.laws.proofs.Lists.{same?, in-here, in-there, in-cons, not-in-nil, from-in}
 
 -- ---- places
 

@@ -12,11 +12,11 @@ use lib.ListN.{length, getD, take, drop, replicate, length-append, length-replic
 use lib.Seq.{take-take, drop-drop, take-at, drop-at, getD-drop, getD-take, length-take-le, drop-append-add, take-append-add}
 use borrow.Author.Tests.{eqb-true, eq-eqb, ltb-true, lt-ltb}
 use Rattle.bits.proofs.Tests.{and-both}
 use Rattle.rules.specs.Lists.{In, joined}
 use Rattle.rules.specs.Machine.{taskPlaces}
 use Rattle.rules.specs.Tables.{nothing, rowsOf, padded, flatOf, rowCounts, Stored, storedRow, storedRows}
-use Rattle.rules.proofs.Bools.{both}
-use Rattle.rules.proofs.Lists.{in-here, in-there}
+use Rattle.laws.proofs.Bools.{both}
+use Rattle.laws.proofs.Lists.{in-here, in-there}
 
 -- ---- reading
 

@@ -1,0 +1,23 @@
+-- The laws of the rules. `Demand3` has demand 3, `Room` the room theorem, `Entry` what the public entries promise.
+pub mod Bools
+pub mod Lists
+pub mod Rows
+pub mod Apart
+pub mod Checks
+pub mod Effects
+pub mod Order
+pub mod Best
+pub mod Entering
+pub mod Choice
+pub mod Step
+pub mod Runs
+pub mod Demand3
+pub mod Room
+pub mod Test
+pub mod Tables
+pub mod Record
+pub mod Finder
+pub mod Log
+pub mod Entry
+pub mod First
+pub mod LentDemand3
