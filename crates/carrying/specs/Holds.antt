@@ -18,14 +18,6 @@ use Rattle.plans.specs.Decided.{asPlan}
 use Rattle.plans.specs.declared.plan.Decision.{Decision}
 use Rattle.plans.specs.declared.plan.Decision.the-variants.{Refused, Nothing, Place, Flag}
 
-pub record Sized (ss ps qs cs ls ks : List ℕ) : Type 0 where
-  pub state : length ss ≡ taskPlaces
-  pub policy : length ps ≡ taskPlaces
-  pub prio : length qs ≡ taskPlaces
-  pub cpu : length cs ≡ taskPlaces
-  pub slice : length ls ≡ taskPlaces
-  pub mask : length ks ≡ taskPlaces
-
 -- all tables but the log
 pub record Holds (m : Machine) (ss ps qs cs ls ks flat ns fs : List ℕ) (r : Record) : Type 0 where
   pub state : ss ≡ m .state

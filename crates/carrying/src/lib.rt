@@ -2,7 +2,6 @@
 // not, and the levels of those rows' CPUs follow.
 ghost use mathlib.Core.Path.{_≡_};
 ghost use mathlib.Core.Bool.{cond};
-ghost use Prim.Native.Nat.{_<_};
 ghost use lib.ListN.{length, set};
 ghost use Rattle.bits.specs.Moments.{old, new};
 ghost use Rattle.cpupri.specs.Record.{recordOf, Whole};
@@ -11,13 +10,13 @@ ghost use Rattle.rules.specs.Machine.{Machine, taskPlaces, levels as levelsOf, 
 ghost use Rattle.rules.specs.Plan.{carried};
 ghost use Rattle.placement.specs.Held.{Queues, followed};
 ghost use Rattle.plans.specs.Decided.{asPlan, did};
-ghost use Rattle.carrying.specs.Holds.{Sized, Holds, Carriable, Placeable, LeavingIf, EnteringIf, FollowingIf, Flagging};
+ghost use Rattle.carrying.specs.Holds.{Holds, Carriable, Placeable, LeavingIf, EnteringIf, FollowingIf, Flagging};
 use cpupri::record::CPUS;
 use cpupri::record::LEVELS;
 use cpupri::record::WORDS;
+use plans::columns::write;
 use plans::plan::Decision;
 use plans::plan::Plan;
-use plans::plan::Task;
 
 pub fn carry_out(
     state: &mut [u8],
@@ -213,34 +212,6 @@ fn follow_if(
         levels,
         cpu,
     );
-}
-
-// The task's entry in every column.
-fn write(
-    state: &mut [u8],
-    policy: &mut [u8],
-    prio: &mut [u8],
-    cpu: &mut [u8],
-    slice: &mut [u16],
-    mask: &mut [u64],
-    at: usize,
-    task: Task,
-)
-    requires { ⌜ at < taskPlaces ⌝ }
-    requires { ⌜ Sized (now state) (now policy) (now prio) (now cpu) (now slice) (now mask) ⌝ }
-    ensures { λ u. ⌜ new state ≡ set (old state) at (task .state) ⌝ }
-    ensures { λ u. ⌜ new policy ≡ set (old policy) at (task .policy) ⌝ }
-    ensures { λ u. ⌜ new prio ≡ set (old prio) at (task .prio) ⌝ }
-    ensures { λ u. ⌜ new cpu ≡ set (old cpu) at (task .cpu) ⌝ }
-    ensures { λ u. ⌜ new slice ≡ set (old slice) at (task .slice) ⌝ }
-    ensures { λ u. ⌜ new mask ≡ set (old mask) at (task .mask) ⌝ }
-{
-    state[at] = task.state;
-    policy[at] = task.policy;
-    prio[at] = task.prio;
-    cpu[at] = task.cpu;
-    slice[at] = task.slice;
-    mask[at] = task.mask;
 }
 
 // A CPU's flag is set, and its level follows.

@@ -1,8 +1,8 @@
--- `carrying::write` meets its contract. Assumes nothing.
+-- `plans::columns::write` meets its contract. Assumes nothing.
 use borrow.Author.Needs.{needs}
 use mathlib.Core.Path.{refl}
-use Rattle.carrying.proofs.write.Statement.{statement}
-use Rattle.carrying.proofs.write.Tie as tie
+use Rattle.plans.proofs.columns.write.Statement.{statement}
+use Rattle.plans.proofs.columns.write.Tie as tie
 
 slice-write-state : tie.Need-slice-write-state
 slice-write-state c = search needs
