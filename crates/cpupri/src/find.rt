@@ -4,7 +4,7 @@ ghost use mathlib.Core.Path.{_≡_};
 ghost use Prim.Native.Nat.{_≤_};
 ghost use Rattle.bits.specs.Moments.{old};
 ghost use Rattle.levels.specs.Level.{levelCount, cpuPlaces};
-ghost use Rattle.cpupri.specs.Found.{maskFits, answerOf, lowestFound, found};
+ghost use Rattle.cpupri.specs.Found.{maskFits, answerOf, lowestLevel, lowestFound, found};
 use consistency::is_consistent;
 use levels::record::CPUS;
 use levels::record::LEVELS;
@@ -58,16 +58,28 @@ pub fn lowest(masks: &[u64; LEVELS], below: usize, mask: u64) -> Found
     requires { ⌜ below ≤ levelCount ⌝ }
     ensures { λ a. ⌜ a ≡ lowestFound (old masks) below mask ⌝ }
 {
+    let level = lowest_level(masks, below, mask);
+    if level < below {
+        let cpus = masks[level] & mask;
+        return Found::Cpus {
+            level: level as u8,
+            mask: cpus,
+        };
+    }
+    Found::Nothing
+}
+
+// The lowest level below `below` that has a CPU of the mask, or `below`.
+pub fn lowest_level(masks: &[u64; LEVELS], below: usize, mask: u64) -> usize
+    requires { ⌜ below ≤ levelCount ⌝ }
+    ensures { λ l. ⌜ l ≡ lowestLevel (old masks) below mask ⌝ }
+{
     let mut level = 0;
     while level < below {
-        let cpus = masks[level] & mask;
-        if cpus != 0 {
-            return Found::Cpus {
-                level: level as u8,
-                mask: cpus,
-            };
+        if masks[level] & mask != 0 {
+            return level;
         }
         level += 1;
     }
-    Found::Nothing
+    below
 }

@@ -49,11 +49,28 @@ fn next_waiting(counts: &[u16], from: usize, n: usize) -> usize
     ensures { λ r. ⌜ NextWaiting (old counts) from n r ⌝ }
 {
     let mut next = from;
-    while next < n {
+    while 1 < n - next {
         if counts[next] >= 2 {
             return next;
         }
-        next += 1;
+        if counts[next + 1] >= 2 {
+            return next + 1;
+        }
+        next += 2;
+    }
+    last_waiting(counts, next, n)
+}
+
+// The same where at most one CPU is left.
+fn last_waiting(counts: &[u16], at: usize, n: usize) -> usize
+    requires { do ⌜ ((at ≤ n) × (n ≤ suc at) × (n ≤ (← ⟦counts.len()⟧))) ⌝ }
+    ensures { λ r. ⌜ NextWaiting (old counts) at n r ⌝ }
+{
+    if n <= at {
+        return n;
+    }
+    if counts[at] >= 2 {
+        return at;
     }
     n
 }

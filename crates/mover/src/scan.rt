@@ -10,7 +10,7 @@ ghost use Rattle.cpupri.specs.Found.{lowestLevel};
 ghost use Rattle.rules.specs.Machine.{highestPriority};
 ghost use Rattle.runqueue.specs.Row.{ahead};
 ghost use Rattle.mover.specs.Wanted.{wanted, Searchable};
-use cpupri::find::Found;
+use cpupri::find::lowest_level;
 use cpupri::level::Level;
 use cpupri::record::LEVELS;
 
@@ -50,10 +50,5 @@ fn has_lower_cpu(masks: &[u64; LEVELS], priority: u8, mask: u64) -> bool
 {
     let level = Level::of_priority(priority);
     let below = level.number as usize;
-    let found = cpupri::find::lowest(masks, below, mask);
-    match found {
-        Found::Cpus { level: _, mask: _ } => true,
-        Found::Nothing => false,
-        Found::Refused(_) => false,
-    }
+    lowest_level(masks, below, mask) < below
 }

@@ -1,13 +1,26 @@
--- `mover::pick::next_waiting` meets its contract. The loop's invariant: nobody waits on the CPUs passed. Assumes nothing.
-use Prim.Native.Nat.{ℕ, _-_, _≤_, _<_}
+-- `mover::pick::next_waiting` meets its contract. The loop's invariant: nobody waits on the CPUs passed.
+-- Assumes nothing.
+use borrow.Author.Needs.{needs}
+use mathlib.Core.Path.{_≡_, refl, ap}
+use mathlib.Core.Bool.{Bool, true, false}
+use mathlib.Core.Logic.{_≢_, _⊎_, inl, inr}
+use mathlib.Core.List.{List}
+use Prim.Native.Nat.{ℕ, suc, _+_, _-_, _≤_, _<_}
 use native.Mathlib.Omega.{arith}
-use borrow.Author.Count.{below-more}
+use lib.Dec.{ltb}
 use lib.ListN.{getD}
+use borrow.Author.Tests.{ltb-true, ltb-false}
+use Rattle.laws.proofs.Lists.{same?}
 use Rattle.mover.proofs.pick.next_waiting.Statement.{statement}
 use Rattle.mover.proofs.pick.next_waiting.Tie as tie
+use Rattle.mover.proofs.pick.next_waiting.Proof.Paths as at
+mod Paths
+
+abbrev Passed : List ℕ → ℕ → ℕ → Type 0
+Passed counts from next = (d : ℕ) → d < next → from ≤ d → getD counts d 0 < 2
 
 abbrev Inv-loop : tie.InvT-loop
-Inv-loop counts from n next₀ next = (from ≤ next) × (next ≤ n) × ((d : ℕ) → d < next → from ≤ d → getD counts d 0 < 2)
+Inv-loop counts from n next₀ next = (from ≤ next) × (next ≤ n) × Passed counts from next
 
 abbrev μ-loop : tie.MeasureT-loop
 μ-loop counts from n next₀ next = n - next
@@ -15,8 +28,34 @@ abbrev μ-loop : tie.MeasureT-loop
 none : {d from : ℕ} → d < from → from ≤ d → ⊥
 none l h = omega arith
 
+-- one CPU more, and what the rest says besides
+module _ (counts : List ℕ) (from next : ℕ) (passed : Passed counts from next) where
+  one-more : getD counts next 0 < 2 → Passed counts from (next + 1)
+  one-more a d l h = go (same? d next)
+    where
+      go : (d ≡ next) ⊎ (d ≢ next) → getD counts d 0 < 2
+      go (inl q) = omega (arith, ap (λ (i : ℕ). getD counts i 0) q)
+      go (inr n) = passed d (omega arith) h
+
+  two-more : getD counts next 0 < 2 → getD counts (next + 1) 0 < 2 → Passed counts from (next + 2)
+  two-more a b d l h = go (same? d (next + 1))
+    where
+      go : (d ≡ next + 1) ⊎ (d ≢ next + 1) → getD counts d 0 < 2
+      go (inl q) = omega (arith, ap (λ (i : ℕ). getD counts i 0) q)
+      go (inr n) = one-more a d (omega arith) h
+
+  rest : (r : ℕ) → ((d : ℕ) → d < r → next ≤ d → getD counts d 0 < 2) → Passed counts from r
+  rest r later d l h = go (ltb d next) refl
+    where
+      go : (b : Bool) → ltb d next ≡ b → getD counts d 0 < 2
+      go true e = passed d (ltb-true d next e) h
+      go false e = later d l (ltb-false d next e)
+
 loop-holds : tie.Need-loop-holds Inv-loop μ-loop
 loop-holds c = (omega arith, omega arith, λ d l h. absurd (none l h))
+
+sub-loop : tie.Need-sub-loop Inv-loop μ-loop
+sub-loop c = omega arith
 
 mul-if1 : tie.Need-mul-if1 Inv-loop μ-loop
 mul-if1 c = omega arith
@@ -26,8 +65,32 @@ shared-slice-read-if1 c = omega arith
 
 returns : tie.Need-returns Inv-loop μ-loop
 returns c =
-    let l = c .before .before .before .loop in
-    record { low = l .inv .0; most = l .inv .1; none = l .inv .2; some = λ h. omega arith }
+    let k = at.returns c in
+    let l = k .loop in
+    record { low = l .inv .0; most = l .inv .1; none = l .inv .2; some = λ h. k .if1 .taken }
+
+add-if2 : tie.Need-add-if2 Inv-loop μ-loop
+add-if2 c = omega arith
+
+mul-if2 : tie.Need-mul-if2 Inv-loop μ-loop
+mul-if2 c = omega arith
+
+shared-slice-read-if2 : tie.Need-shared-slice-read-if2 Inv-loop μ-loop
+shared-slice-read-if2 c = omega arith
+
+add-result : tie.Need-add-result Inv-loop μ-loop
+add-result c = omega arith
+
+returns-2 : tie.Need-returns-2 Inv-loop μ-loop
+returns-2 c =
+    let k = at.returns-2 c in
+    let l = k .loop in
+    record {
+      low = omega arith;
+      most = omega arith;
+      none = one-more (k .args .counts .now) (k .args .from) (l .next) (l .inv .2) (omega (arith, k .if1 .left));
+      some = λ h. k .if2 .taken;
+    }
 
 add-next : tie.Need-add-next Inv-loop μ-loop
 add-next c = omega arith
@@ -37,25 +100,45 @@ loop-less c = omega arith
 
 loop-again : tie.Need-loop-again Inv-loop μ-loop
 loop-again c =
-    let l = c .before .before .before .loop in
-    (omega arith, omega arith, below-more _ (l .next) (l .inv .2) (λ h. omega arith))
+    let k = at.loop-again c in
+    let l = k .loop in (
+      omega arith,
+      omega arith,
+      two-more (k .args .counts .now) (k .args .from) (l .next) (l .inv .2) (omega (arith, k .if1 .left)) (omega (arith, k .if2 .left)),
+    )
 
-returns-2 : tie.Need-returns-2 Inv-loop μ-loop
-returns-2 c =
-    let l = c .before .loop in
-    record { low = omega arith; most = omega arith; none = λ d h. l .inv .2 d (omega arith); some = λ h. absurd (none h (omega arith)) }
+last-waiting-requires : tie.Need-last-waiting-requires Inv-loop μ-loop
+last-waiting-requires c κs = (omega arith, omega arith, omega arith)
+
+returns-3 : tie.Need-returns-3 Inv-loop μ-loop
+returns-3 c =
+    let k = at.returns-3 c in
+    let l = k .loop in
+    let e = k .last-waiting .ensures in
+    record {
+      low = omega (arith, e .low, l .inv .0);
+      most = e .most;
+      none = rest (k .args .counts .now) (k .args .from) (l .next) (l .inv .2) (k .last-waiting .result) (e .none);
+      some = e .some;
+    }
 
 pub next-waiting-spec : {M : Type 1} → statement M
 next-waiting-spec =
-    tie.close
-    (tie.spec
+    at.close
     Inv-loop
     μ-loop
     loop-holds
+    sub-loop
     mul-if1
     shared-slice-read-if1
     returns
+    add-if2
+    mul-if2
+    shared-slice-read-if2
+    add-result
+    returns-2
     add-next
     loop-less
     loop-again
-    returns-2)
+    last-waiting-requires
+    returns-3
