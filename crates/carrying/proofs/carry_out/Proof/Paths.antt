@@ -1,4 +1,4 @@
--- The places of `carrying::carry_out` by name, and its needs that are plumbing. Written by `paths carrying`: not to be edited.
+-- The places of `carrying::carry_out` by name, and its needs that are plumbing. Written by `scripts/paths carrying`: not to be edited.
 -- Assumes nothing.
 use mathlib.Core.Path.{refl}
 use Rattle.carrying.proofs.carry_out.Statement.{statement}

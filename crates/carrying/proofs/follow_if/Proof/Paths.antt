@@ -1,4 +1,4 @@
--- The places of `carrying::follow_if` by name, and its needs that are plumbing. Written by `paths carrying`: not to be edited.
+-- The places of `carrying::follow_if` by name, and its needs that are plumbing. Written by `scripts/paths carrying`: not to be edited.
 -- Assumes nothing.
 use Rattle.carrying.proofs.follow_if.Statement.{statement}
 use Rattle.carrying.proofs.follow_if.Tie as tie

@@ -1,4 +1,4 @@
--- The places of `carrying::set_flag` by name, and its needs that are plumbing. Written by `paths carrying`: not to be edited.
+-- The places of `carrying::set_flag` by name, and its needs that are plumbing. Written by `scripts/paths carrying`: not to be edited.
 -- Assumes nothing.
 use borrow.Author.Needs.{needs}
 use Rattle.carrying.proofs.set_flag.Statement.{statement}

@@ -1,4 +1,4 @@
--- The places of `machine::event` by name, and its needs that are plumbing. Written by `paths machine`: not to be edited.
+-- The places of `machine::event` by name, and its needs that are plumbing. Written by `scripts/paths machine`: not to be edited.
 -- Assumes nothing.
 use mathlib.Core.Path.{refl}
 use mathlib.Core.List.{List}

@@ -1,4 +1,4 @@
--- The places of `script::tables::Tables::event` by name, and its needs that are plumbing. Written by `paths script`: not to be edited.
+-- The places of `script::tables::Tables::event` by name, and its needs that are plumbing. Written by `scripts/paths script`: not to be edited.
 -- Assumes nothing.
 use Rattle.script.proofs.tables.Tables.event.Statement.{statement}
 use Rattle.script.proofs.tables.Tables.event.Tie as tie
