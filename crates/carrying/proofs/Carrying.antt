@@ -12,7 +12,8 @@ use Rattle.plans.specs.Decided.{asPlan, did}
 use Rattle.plans.specs.declared.plan.Plan.{Plan as Written}
 use Rattle.plans.specs.declared.plan.Decision.{Decision}
 use Rattle.plans.specs.declared.plan.Decision.the-variants.{Refused, Nothing, Place, Flag}
-use Rattle.carrying.specs.Holds.{Holds, Ready, Carriable, Placeable, Flagging}
+use Rattle.carrying.specs.Holds.{Holds, Ready, Carriable, Placeable}
+use Rattle.parts.specs.Optional.{Flagging}
 
 module _ {m : Machine} {ss ps qs cs ls ks flat ns fs : List ℕ} {r : Record} {d : Decision} (l : Carriable m ss ps qs cs ls ks flat ns fs r d) where
   pub placeable : {p : Written} → d ≡ Place p → Placeable m ss ps qs cs ls ks flat ns fs r (asPlan p)

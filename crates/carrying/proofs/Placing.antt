@@ -21,7 +21,8 @@ use Rattle.placement.specs.Held.{InOrder, Queues, Following, followed}
 use Rattle.placement.proofs.Order.{well-formed-order, apart-order, whole as whole-held}
 use Rattle.placement.proofs.Following.{levels-followed}
 use Rattle.plans.specs.Columns.{Sized}
-use Rattle.carrying.specs.Holds.{Holds, Placeable, LeavingIf, EnteringIf, FollowingIf}
+use Rattle.carrying.specs.Holds.{Holds, Placeable}
+use Rattle.parts.specs.Optional.{LeavingIf, EnteringIf, FollowingIf}
 
 -- a runnable task that leaves the row it stands in
 apart-left : (t c : ℕ) (m : Machine) → WellFormed m → In t (row m c) → Apart t (dequeue t c m)

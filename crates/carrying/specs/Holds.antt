@@ -2,18 +2,14 @@
 -- qs priorities, cs CPUs, ls slices, ks masks, flat rows, ns counts, fs flags; r is the CPU-priority record.
 -- Assumes nothing.
 use mathlib.Core.Path.{_≡_}
-use mathlib.Core.Bool.{Bool}
 use mathlib.Core.List.{List}
 use Prim.Native.Nat.{ℕ, _≤_, _<_}
-use lib.ListN.{length}
 use Rattle.cpupri.specs.Record.{recordOf}
 use Rattle.levels.specs.declared.record.Record.{Record}
-use Rattle.rules.specs.Lists.{In}
-use Rattle.rules.specs.Machine.{Machine, prioOf, row, levels, taskPlaces, highestPriority}
-use Rattle.rules.specs.Plan.{Plan, When, Doable}
+use Rattle.rules.specs.Machine.{Machine, levels}
+use Rattle.rules.specs.Plan.{Plan, Doable}
 use Rattle.rules.specs.Tables.{flatOf, rowCounts}
 use Rattle.rules.specs.WellFormed.{WellFormed}
-use Rattle.placement.specs.Held.{Queues, Following}
 use Rattle.plans.specs.Decided.{asPlan}
 use Rattle.plans.specs.declared.plan.Decision.{Decision}
 use Rattle.plans.specs.declared.plan.Decision.the-variants.{Refused, Nothing, Place, Flag}
@@ -48,28 +44,3 @@ pub record Placeable (m : Machine) (ss ps qs cs ls ks flat ns fs : List ℕ) (r 
   pub formed : WellFormed m
   pub holds : Holds m ss ps qs cs ls ks flat ns fs r
   pub ready : Doable m p
-
-pub record Flagging (m : Machine) (qs flat ns fs : List ℕ) (r : Record) (c b : ℕ) : Type 0 where
-  pub formed : WellFormed m
-  pub prio : qs ≡ m .prio
-  pub rows : flat ≡ flatOf (m .rows)
-  pub counts : ns ≡ rowCounts (m .rows)
-  pub flags : fs ≡ m .flags
-  pub levels : r ≡ recordOf (levels m)
-  pub cpu : c < m .n
-  pub work : b ≤ 1
-
--- ---- leaving, entering and following, if it is to
-
-pub record LeavingIf (b : Bool) (m : Machine) (ns flat : List ℕ) (t c : ℕ) : Type 0 where
-  pub queues : Queues m ns flat
-  pub may : When b ((c < m .n) × In t (row m c))
-
-pub record EnteringIf (b : Bool) (m : Machine) (qs ns flat : List ℕ) (t c : ℕ) : Type 0 where
-  pub queues : Queues m ns flat
-  pub prio : qs ≡ m .prio
-  pub task : t < taskPlaces
-  pub may : When b ((c < m .n) × (prioOf m t ≤ highestPriority) × (length (row m c) < taskPlaces))
-
-pub record FollowingIf (b : Bool) (m : Machine) (qs fs ns flat : List ℕ) (c : ℕ) : Type 0 where
-  pub may : When b (Following m qs fs ns flat c)

@@ -17,6 +17,7 @@ use Rattle.plans.proofs.plan.Decision.{the-type}
 use Rattle.plans.specs.declared.plan.Decision.{Decision}
 use Rattle.plans.specs.declared.plan.Decision.the-variants.{Refused, Nothing, Place, Flag}
 use Rattle.carrying.specs.Holds.{Ready}
+use Rattle.hinting.specs.Past.{Able}
 
 abbrev pub accepted : Decision → Bool
 accepted (Refused a) = false
@@ -40,6 +41,13 @@ module _ (m : Machine) (e : Event) where
   ready Nothing h = tt
   ready (Place p) h = h .1 .doable
   ready (Flag c b) h = (h .2, h .3)
+
+  pub able : (d : Decision) → Decides m e d → Able m d
+  unfolding Decides
+  able (Refused a) h = tt
+  able Nothing h = tt
+  able (Place p) h = h .1 .doable
+  able (Flag c b) h = tt
 
   pub refused : (a : ℕ) → Decides m e (Refused a) → (a ≡ refusal m e) × (a ≡ 0 → ⊥)
   unfolding Decides

@@ -1,11 +1,12 @@
 -- An event on tables that pass the check: what it is lent for its own effect, and what it hands back, refused or taken.
 -- Assumes nothing.
 use mathlib.Core.Path.{_≡_, refl, sym, ap, _∙_, subst}
-use mathlib.Core.Bool.{true}
+use mathlib.Core.Bool.{Bool, true}
 use mathlib.Core.List.{List}
 use Prim.Native.Nat.{ℕ, zero, suc, _*_, _≤_, _<_}
 use native.Mathlib.Omega.{arith}
 use lib.ListN.{length}
+use Rattle.cpupri.specs.Record.{recordOf}
 use Rattle.levels.specs.declared.record.Record.{Record}
 use Rattle.rules.specs.Machine.{Machine, taskPlaces, cpuPlaces}
 use Rattle.rules.specs.WellFormed.{WellFormed}
@@ -22,13 +23,18 @@ use Rattle.laws.proofs.Runs.{settle-run, run-keeps, run-few}
 use Rattle.laws.proofs.Tables.{write-read, stored-test}
 use Rattle.laws.proofs.Entry.{checked-good, good-checked, answer-checked, answer-event, handled-answer, handled-refused, handled-accepted, handled-good, start-n}
 use Rattle.laws.proofs.LentDemand3.{handled-lent}
+use Rattle.laws.specs.Still.{Still}
+use Rattle.laws.proofs.Settled.{handled-still, still-handled}
 use Rattle.lenttables.specs.Lent.{lent}
 use Rattle.plans.specs.Decided.{did}
 use Rattle.deciding.specs.Subject.{subjectOf, Lent, LentRows, Decides}
 use Rattle.plans.specs.declared.plan.Decision.{Decision}
 use Rattle.plans.specs.declared.plan.Decision.the-variants.{Refused}
 use Rattle.carrying.specs.Holds.{Holds, Carriable}
-use Rattle.handling.proofs.Decisions.{accepted, ready, refused, taken}
+use Rattle.hinting.specs.Hinted.{Hinted}
+use Rattle.hinting.specs.Past.{Reading, Standing, pastBy, hintAfter}
+use Rattle.hinting.proofs.Events.{event-hinted, past-stands}
+use Rattle.handling.proofs.Decisions.{accepted, ready, able, refused, taken}
 use Rattle.placement.proofs.Order.{well-formed-order}
 use Rattle.migration.specs.Settling.{Settling, Ended}
 
@@ -62,6 +68,18 @@ same-tables s t h = whole
         let j = h .flags in
         let k = h .log in
         cc
+
+-- ---- what `handle` promises of the answer a, k moves, the record q and the tables t
+
+abbrev pub Handed : ℕ → Record → Tables → Event → ℕ → ℕ → Record → Tables → Type 0
+Handed n r s e a k q t = (result a k q t ≡ handled n r s e) × ((checked n q t ≡ 0) × ((a ≡ 0 → Still n t) × (Still n s → Still n t)))
+
+handed : (n : ℕ) (r : Record) (s : Tables) (e : Event) (a k : ℕ) (q : Record) (t : Tables) → result a k q t ≡ handled n r s e → checked n q t ≡ 0
+    → Handed n r s e a k q t
+handed n r s e a k q t is good = (is, (good, (λ z. back (handled-still n r s e (sym (handled-answer n r s e) ∙ sym (ap (λ (x : Result). x .answer) is) ∙ z)), λ h. back (still-handled n r s e h))))
+  where
+    back : Still n (handled n r s e .tables) → Still n t
+    back h = subst (λ (x : Result). Still n (x .tables)) (sym is) h
 
 -- ---- tables that pass the check
 
@@ -115,6 +133,10 @@ module _ {n : ℕ} {r : Record} {s : Tables} (h : Passed n r s) where
         subject = e;
       }
 
+  pub reading : Reading (machineOf n s) (s .cpu) (s .rows) (r .levels)
+  unfolding recordOf
+  reading = record { well = good .machine; cpu = refl; rows = holds .rows; levels = ap (λ (q : Record). q .levels) (good .levels) }
+
   -- ---- the decision
 
   module _ (e : Event) {d : Decision} (right : Decides (machineOf n s) e d) where
@@ -122,14 +144,30 @@ module _ {n : ℕ} {r : Record} {s : Tables} (h : Passed n r s) where
     carriable = record { formed = good .machine; holds = holds; ready = ready before e d right }
 
     -- refused: nothing was written
-    pub refused-result : {a : ℕ} → d ≡ Refused a → (result a 0 r s ≡ handled n r s e) × (checked n r s ≡ 0)
-    refused-result {a} is = (go a refl (refused before e a (subst (Decides before e) is right)), h .checks)
+    pub refused-result : {a : ℕ} → d ≡ Refused a → Handed n r s e a 0 r s
+    refused-result {a} is = handed n r s e a 0 r s (go a refl (refused before e a (subst (Decides before e) is right))) (h .checks)
       where
         go : (b : ℕ) → a ≡ b → (a ≡ refusal before e) × (a ≡ 0 → ⊥) → result a 0 r s ≡ handled n r s e
         go zero x f = absurd (f .1 x)
         go (suc b) x f =
             ap (λ (k : ℕ). kept k r s) x
             ∙ sym (handled-refused n r s e b (answer-event n r s e (h .checks) ∙ sym (f .0) ∙ x))
+
+  -- what was read before the effect can be looked up after it, and gives a true hint
+  module _ (e : Event) (d : Decision) (right : Decides (machineOf n s) e d) (z : accepted d ≡ true) (settled : Bool) where
+    ok : (refusal before e ≡ 0) × (did d before ≡ effect e before)
+    ok = taken before e d right z
+
+    pub stands : Standing (effect e (machineOf n s)) (pastBy settled (machineOf n s) d)
+    stands =
+        past-stands settled before (effect e before) d (good .machine)
+        (start-n n r s e (answer-event n r s e (h .checks) ∙ ok .0)) (able before e d right)
+
+    pub hints : (settled ≡ true → Still n s) → Hinted (effect e (machineOf n s)) (hintAfter (pastBy settled (machineOf n s) d) (effect e (machineOf n s)))
+    hints calm =
+        subst (λ (m : Machine). Hinted m (hintAfter (pastBy settled before d) m)) (ok .1)
+        (event-hinted settled before d (good .machine) calm (able before e d right)
+        (subst WellFormed (sym (ok .1)) (keep-effect before e (good .machine) (ok .0))))
 
 -- ---- the event was accepted and its own effect left the tables t and the record q
 
@@ -192,6 +230,10 @@ module _ {n : ℕ} {r : Record} {s : Tables} {e : Event} {t : Tables} {q : Recor
         masks = h .done .mask;
       }
 
+  pub start-reading : Reading (effect e (machineOf n s)) (t .cpu) (t .rows) (q .levels)
+  unfolding recordOf
+  start-reading = record { well = well; cpu = h .done .cpu; rows = h .done .rows; levels = ap (λ (x : Record). x .levels) (h .done .levels) }
+
   pub start-cpus : n ≡ effect e (machineOf n s) .n
   start-cpus = sym (start-n n r s e accepted-is)
 
@@ -236,12 +278,10 @@ module _ {n : ℕ} {r : Record} {s : Tables} {e : Event} {t : Tables} {q : Recor
         all ∙ sym (ap (λ (o : Outcome). written (o .moves) (o .machine) (logged (o .log) (s .log))) (outcome-accepted (machineOf n s) e (h .takes)))
         ∙ sym (handled-accepted n r s e accepted-is)
 
-    pub taken-result : (result 0 k p (lent (t .state) (t .policy) (t .prio) cs (t .slice) (t .mask) flat ks (t .flags) lg) ≡ handled n r s e)
-        × (checked n p (lent (t .state) (t .policy) (t .prio) cs (t .slice) (t .mask) flat ks (t .flags) lg) ≡ 0)
-    taken-result = (
-      taken-is,
-      good-checked n p after (subst (λ (x : Result). Good n (x .cpupri) (x .tables)) (sym taken-is) (handled-good n r s e accepted-is)),
-    )
+    pub taken-result : Handed n r s e 0 k p (lent (t .state) (t .policy) (t .prio) cs (t .slice) (t .mask) flat ks (t .flags) lg)
+    taken-result =
+        handed n r s e 0 k p after taken-is
+        (good-checked n p after (subst (λ (x : Result). Good n (x .cpupri) (x .tables)) (sym taken-is) (handled-good n r s e accepted-is)))
 
     -- there are fewer moves than CPUs
     pub taken-few : k < cpuPlaces

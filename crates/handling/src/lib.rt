@@ -1,8 +1,10 @@
 // An event on tables that pass the check: the event's own effect, then migration steps until none applies.
 ghost use mathlib.Core.Path.{_≡_};
+ghost use mathlib.Core.Bool.{true};
 ghost use Rattle.levels.specs.Lent.{nowRecord, oldRecord, newRecord};
 ghost use Rattle.rules.specs.Entry.{result, checked, handled};
 ghost use Rattle.rules.specs.Events.{event as numbers};
+ghost use Rattle.laws.specs.Still.{Still};
 ghost use Rattle.lenttables.specs.Lent.{nowTables, oldTables, newTables};
 use carrying::carry_out;
 use cpupri::record::CPUS;
@@ -10,6 +12,8 @@ use cpupri::record::LEVELS;
 use cpupri::record::WORDS;
 use deciding::decide;
 use deciding::read::subject;
+use hinting::past::hint;
+use hinting::past::remember;
 use migration::settle::settle;
 use plans::plan::Decision;
 
@@ -19,8 +23,10 @@ pub struct Handled {
     pub moves: u32,
 }
 
-// One event on well-formed tables, which stay well-formed. Nothing is checked again but the event.
+// One event on well-formed tables, which stay well-formed. Nothing is checked again but the event. `settled` says that no task is
+// movable now, as an accepted event leaves it: then few tasks are looked at.
 pub fn handle(
+    settled: bool,
     n: usize,
     state: &mut [u8],
     policy: &mut [u8],
@@ -44,12 +50,15 @@ pub fn handle(
 ) -> Handled
     requires { let r = nowRecord masks tallies words levels in
         ⌜ checked n r (nowTables state policy prio cpu slice mask rows counts flags log) ≡ 0 ⌝ }
+    requires { ⌜ (settled ≡ true → Still n (nowTables state policy prio cpu slice mask rows counts flags log)) ⌝ }
     ensures { λ o. let r = oldRecord masks tallies words levels in
         let q = newRecord masks tallies words levels in
         let s = oldTables state policy prio cpu slice mask rows counts flags log in
         let t = newTables state policy prio cpu slice mask rows counts flags log in
         ⌜ result (o .answer) (o .moves) q t ≡ handled n r s (numbers kind who a b k) ⌝
-        ∗ ⌜ checked n q t ≡ 0 ⌝ }
+        ∗ ⌜ checked n q t ≡ 0 ⌝
+        ∗ ⌜ (o .answer ≡ 0 → Still n t) ⌝
+        ∗ ⌜ (Still n s → Still n t) ⌝ }
 {
     let at = subject(n, rows, counts, kind, who);
     let decision = decide(
@@ -73,6 +82,7 @@ pub fn handle(
             moves: 0,
         };
     }
+    let past = remember(settled, decision, cpu, rows, levels);
     carry_out(
         state,
         policy,
@@ -89,7 +99,9 @@ pub fn handle(
         levels,
         decision,
     );
+    let few = hint(past, state, cpu, rows, levels);
     let steps = settle(
+        few,
         n,
         prio,
         cpu,

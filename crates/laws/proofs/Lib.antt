@@ -12,6 +12,8 @@ pub mod Choice
 pub mod Step
 pub mod Runs
 pub mod Demand3
+pub mod Limited
+pub mod Touched
 pub mod Room
 pub mod Test
 pub mod Tables
@@ -19,5 +21,6 @@ pub mod Record
 pub mod Finder
 pub mod Log
 pub mod Entry
+pub mod Settled
 pub mod First
 pub mod LentDemand3

@@ -13,8 +13,9 @@ use lib.Seq.{take-take, drop-drop, take-at, drop-at, getD-drop, getD-take, lengt
 use borrow.Author.Tests.{eqb-true, eq-eqb, ltb-true, lt-ltb}
 use Rattle.bits.proofs.Tests.{and-both}
 use Rattle.rules.specs.Lists.{In, joined}
-use Rattle.rules.specs.Machine.{taskPlaces}
+use Rattle.rules.specs.Machine.{taskPlaces, head}
 use Rattle.rules.specs.Tables.{nothing, rowsOf, padded, flatOf, rowCounts, Stored, storedRow, storedRows}
+use Rattle.laws.specs.Limited.{second, orNothing}
 use Rattle.laws.proofs.Bools.{both}
 use Rattle.laws.proofs.Lists.{in-here, in-there}
 
@@ -89,6 +90,35 @@ flat-row (r ∷ rs) f (suc c) h =
     ap (take taskPlaces)
     (ap₂ (λ (n : ℕ) (l : List ℕ). drop n l) next (flat-cons r rs) ∙ drop-append-add (padded r) (flatOf rs) (taskPlaces * c))
     ∙ flat-row rs (λ d. f (suc d)) c (le-of-suc-le-suc h)
+
+-- the first and the second place of a row: they hold nothing where the row is shorter
+padded-first : (r : List ℕ) → getD (padded r) 0 0 ≡ orNothing (head r)
+unfolding padded
+padded-first [] = refl
+padded-first (x ∷ r) = refl
+
+padded-second : (r : List ℕ) → getD (padded r) 1 0 ≡ orNothing (second r)
+unfolding padded
+padded-second [] = refl
+padded-second (x ∷ []) = refl
+padded-second (x ∷ (y ∷ r)) = refl
+
+module _ (rs : List (List ℕ)) (fits : Fitting rs) (c : ℕ) (h : c < length rs) where
+  row-place : (i : ℕ) → i < taskPlaces → getD (flatOf rs) (taskPlaces * c + i) 0 ≡ getD (padded (getD rs c [])) i 0
+  row-place i l =
+      sym (getD-drop (taskPlaces * c) (flatOf rs) i 0)
+      ∙ sym (getD-take taskPlaces (drop (taskPlaces * c) (flatOf rs)) i 0 l)
+      ∙ ap (λ (xs : List ℕ). getD xs i 0) (flat-row rs fits c h)
+
+  pub flat-first : getD (flatOf rs) (c * taskPlaces) 0 ≡ orNothing (head (getD rs c []))
+  flat-first =
+      let e : c * taskPlaces ≡ taskPlaces * c + 0 = omega arith in
+      ap (λ (i : ℕ). getD (flatOf rs) i 0) e ∙ row-place 0 (omega arith) ∙ padded-first (getD rs c [])
+
+  pub flat-second : getD (flatOf rs) (c * taskPlaces + 1) 0 ≡ orNothing (second (getD rs c []))
+  flat-second =
+      let e : c * taskPlaces + 1 ≡ taskPlaces * c + 1 = omega arith in
+      ap (λ (i : ℕ). getD (flatOf rs) i 0) e ∙ row-place 1 (omega arith) ∙ padded-second (getD rs c [])
 
 -- another row c: its 512 places change, and no other
 pub flat-set : (rs : List (List ℕ)) → Fitting rs → (c : ℕ) (r : List ℕ) → c < length rs

@@ -70,6 +70,7 @@ pub fn event(
     let mut words = record.words;
     let mut levels = record.levels;
     let done = handle(
+        false, // not known: the check does not say whether the tables are settled
         n,
         state,
         policy,

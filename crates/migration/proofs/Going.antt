@@ -1,32 +1,53 @@
 -- The steps under way: the tables hold the machine that the steps so far lead to, and the log has their entries.
 -- Assumes nothing.
 use mathlib.Core.Path.{_≡_, refl, sym, ap, _∙_, subst}
+use mathlib.Core.Bool.{Bool, cond}
 use mathlib.Core.List.{List, [], _∷_, _++_}
 use mathlib.Core.Option.{some, none}
 use Prim.Native.Nat.{ℕ, suc, _+_, _*_, _≤_, _<_}
 use native.Mathlib.Omega.{arith}
+use borrow.Author.Tests.{eq-eqb, ne-eqb}
 use lib.ListN.{length, getD, set, length-append, length-map}
-use Rattle.bits.specs.Bit.{lowest}
-use Rattle.cpupri.specs.Level.{levelOf}
-use Rattle.cpupri.specs.Found.{lowestLevel, allowedAt}
-use Rattle.cpupri.specs.Record.{recordOf, masksOf}
+use Rattle.cpupri.specs.Record.{recordOf}
 use Rattle.levels.specs.declared.record.Record.{Record}
-use Rattle.rules.specs.Machine.{Machine, taskOf, prioOf, levels, enqueue, dequeue, taskPlaces}
+use Rattle.rules.specs.Machine.{Machine, running, enqueue, dequeue, taskPlaces}
 use Rattle.rules.specs.Migration.{Move, Settled, next, settleAll}
 use Rattle.rules.specs.Outcome.{logNumbers, logged}
-use Rattle.rules.specs.Tables.{flatOf, logPlaces}
+use Rattle.rules.specs.Tables.{flatOf, logPlaces, nothing}
 use Rattle.rules.specs.WellFormed.{WellFormed}
 use Rattle.laws.proofs.Log.{length-logged}
-use Rattle.laws.proofs.Tables.{length-flat}
+use Rattle.laws.proofs.Runs.{settled-stop}
+use Rattle.laws.specs.Limited.{orNothing}
+use Rattle.laws.proofs.Tables.{length-flat, flat-first}
 use Rattle.placement.specs.Held.{Held}
-use Rattle.mover.specs.Foremost.{Looking, Foremost, BestOf}
+use Rattle.hinting.specs.Hinted.{Hinted}
+use Rattle.hinting.specs.declared.hint.Hint.{Hint}
+use Rattle.choosing.specs.Choosing.{Choosing, stepOf}
+use Rattle.choosing.specs.declared.Step.{Step}
 use Rattle.migration.specs.Settling.{Settling, Ended}
-use Rattle.mover.specs.declared.pick.Mover.{Mover}
-use Rattle.mover.proofs.Choose.{none-next, best-next, mover-fit, mover-found}
 use Rattle.migration.proofs.Entries.{logged-snoc}
 use Rattle.migration.proofs.Taken.{Taken, begin, onto, taken-well, taken-few, taken-n, taken-all}
 
-pub record Going (m : Machine) (ps cs ms ks flat old log : List ℕ) (k : ℕ) (r : Record) : Type 0 where
+-- ---- the step that was chosen
+
+pub step-none : (s : Step) → s .task ≡ nothing → stepOf s ≡ none
+step-none s e = ap (λ (b : Bool). cond b none (some (record { task = s .task; origin = s .origin; target = s .target }))) (eq-eqb (s .task) nothing e)
+
+pub step-some : (s : Step) → (s .task ≡ nothing → ⊥) → stepOf s ≡ some (record { task = s .task; origin = s .origin; target = s .target })
+step-some s n = ap (λ (b : Bool). cond b none (some (record { task = s .task; origin = s .origin; target = s .target }))) (ne-eqb (s .task) nothing n)
+
+-- ---- no step
+
+pub none-taken : {m : Machine} {ps cs ms ks flat old : List ℕ} {r : Record} → Settling m ps cs ms ks flat r → next m ≡ none
+    → Ended (settleAll m) ps cs ks flat old old 0 r
+unfolding logNumbers
+none-taken {m} {ps} {cs} {ms} {ks} {flat} {old} {r} s h =
+    subst (λ (q : Settled). Ended q ps cs ks flat old old 0 r) (sym (settled-stop m h))
+    (record { held = s .held; cpus = s .cpus; moves = refl; logs = refl })
+
+-- ---- the steps so far
+
+pub record Going (m : Machine) (ps cs ms ks flat old log : List ℕ) (k : ℕ) (r : Record) (h : Hint) : Type 0 where
   pub steps : List Move
   pub reached : Machine
   pub taken : Taken m steps reached
@@ -35,13 +56,16 @@ pub record Going (m : Machine) (ps cs ms ks flat old log : List ℕ) (k : ℕ) (
   pub masks : ms ≡ reached .mask
   pub moves : k ≡ length steps
   pub logs : log ≡ logged steps old
+  -- what is known
+  pub hint : Hinted reached h
 
-pub going-start : {m : Machine} {ps cs ms ks flat old : List ℕ} {r : Record} → Settling m ps cs ms ks flat r → Going m ps cs ms ks flat old old 0 r
+pub going-start : {m : Machine} {ps cs ms ks flat old : List ℕ} {r : Record} {h : Hint} → Settling m ps cs ms ks flat r → Hinted m h
+    → Going m ps cs ms ks flat old old 0 r h
 unfolding logNumbers
-going-start {m} s =
-    record { steps = []; reached = m; taken = begin; held = s .held; cpus = s .cpus; masks = s .masks; moves = refl; logs = refl }
+going-start {m} s known =
+    record { steps = []; reached = m; taken = begin; held = s .held; cpus = s .cpus; masks = s .masks; moves = refl; logs = refl; hint = known }
 
-module _ {m : Machine} (w : WellFormed m) {ps cs ms ks flat old log : List ℕ} {k : ℕ} {r : Record} (g : Going m ps cs ms ks flat old log k r) where
+module _ {m : Machine} (w : WellFormed m) {ps cs ms ks flat old log : List ℕ} {k : ℕ} {r : Record} {h : Hint} (g : Going m ps cs ms ks flat old log k r h) where
   abbrev e : Machine
   e = g .reached
 
@@ -59,47 +83,41 @@ module _ {m : Machine} (w : WellFormed m) {ps cs ms ks flat old log : List ℕ} 
   pub more-few : {v : Move} → next e ≡ some v → suc k < m .n
   more-few {v} n = omega (arith, taken-few w (onto (g .taken) n), length-append (g .steps) (v ∷ []), g .moves)
 
-  pub record-masks : r .masks ≡ masksOf (levels e)
+  -- what the next step is chosen from
+  pub choosing : {n : ℕ} → n ≡ m .n → Choosing e n ps cs ms ks flat (r .masks) (r .levels)
   unfolding recordOf
-  record-masks = ap (λ (q : Record). q .masks) (g .held .levels)
+  choosing h =
+      record {
+        looking = record {
+          well = here;
+          prio = g .held .prio;
+          mask = g .masks;
+          counts = g .held .counts;
+          rows = g .held .rows;
+          levels = ap (λ (q : Record). q .masks) (g .held .levels);
+        };
+        cpus = h ∙ sym same-n;
+        cpu = g .cpus;
+        levels = ap (λ (q : Record). q .levels) (g .held .levels);
+      }
 
-  pub looking : Looking e ps ms ks flat (r .masks)
-  looking = record { well = here; prio = g .held .prio; mask = g .masks; counts = g .held .counts; rows = g .held .rows; levels = record-masks }
-
-  -- nothing is movable: the steps have ended
-  pub going-end : (b : Mover) → BestOf e (e .n) b → b .priority ≡ 0 → Ended (settleAll m) ps cs ks flat old log k r
-  going-end b best z =
-      subst (λ (s : Settled). Ended s ps cs ks flat old log k r) (sym (taken-all w (g .taken) (none-next e here (best .none z))))
+  -- no step applies: the steps have ended
+  pub going-end : next e ≡ none → Ended (settleAll m) ps cs ks flat old log k r
+  going-end h =
+      subst (λ (s : Settled). Ended s ps cs ks flat old log k r) (sym (taken-all w (g .taken) h))
       (record { held = g .held; cpus = g .cpus; moves = g .moves; logs = g .logs })
 
-  module _ {b : Mover} (f : Foremost e (e .n) b) where
-    -- the finder is asked with the mover's level and mask
-    asks : (P : List ℕ → ℕ → ℕ → Type 0) → P (masksOf (levels e)) (levelOf (prioOf e (b .task))) (taskOf e (b .task) .mask) → P (r .masks) (levelOf (b .priority)) (getD ms (b .task) 0)
-    asks P p =
-        subst (λ (q : List ℕ). P q (levelOf (b .priority)) (getD ms (b .task) 0)) (sym record-masks)
-        (subst (λ (l : ℕ). P (masksOf (levels e)) (levelOf l) (getD ms (b .task) 0)) (sym (f .prio))
-        (subst (λ (q : List ℕ). P (masksOf (levels e)) (levelOf (prioOf e (b .task))) (getD q (b .task) 0)) (sym (g .masks)) p))
-
-    pub going-found : lowestLevel (r .masks) (levelOf (b .priority)) (getD ms (b .task) 0) < levelOf (b .priority)
-    going-found = asks (λ (q : List ℕ) (l k : ℕ). lowestLevel q l k < l) (mover-found e here b f)
-
-    pub going-high : b .priority ≤ 99
-    going-high = subst (λ (p : ℕ). p ≤ 99) (sym (f .prio)) (mover-fit e here b f .prio-high)
-
-    -- the step that applies, with the destination that it gives
-    pub going-next : {d : ℕ} → d ≡ lowest 64 (allowedAt (r .masks) (getD ms (b .task) 0) (lowestLevel (r .masks) (levelOf (b .priority)) (getD ms (b .task) 0)))
-        → next e ≡ some (record { task = b .task; origin = b .origin; target = d })
-    going-next h =
-        best-next e here b f
-        ∙ ap (λ (x : ℕ). some (record { task = b .task; origin = b .origin; target = x }))
-        (asks (λ (q : List ℕ) (l k : ℕ). lowest 64 (allowedAt (masksOf (levels e)) (taskOf e (b .task) .mask) (lowestLevel (masksOf (levels e)) (levelOf (prioOf e (b .task))) (taskOf e (b .task) .mask))) ≡ lowest 64 (allowedAt q k (lowestLevel q l k))) refl
-        ∙ sym h)
+  -- the task that runs on CPU d, as the rows have it
+  pub runs-lent : (d : ℕ) → d < e .n → getD flat (d * taskPlaces) 0 ≡ orNothing (running e d)
+  runs-lent d h =
+      ap (λ (q : List ℕ). getD q (d * taskPlaces) 0) (g .held .rows)
+      ∙ flat-first (e .rows) (g .held .order .fits) d (subst (λ (l : ℕ). d < l) (sym (g .held .order .rows)) h)
 
   -- one step more
-  pub going-on : {t o d : ℕ} → next e ≡ some (record { task = t; origin = o; target = d }) → k * 3 + 2 < length old → {cs′ ks′ flat′ log′ : List ℕ} {r′ : Record}
+  pub going-on : {t o d : ℕ} → next e ≡ some (record { task = t; origin = o; target = d }) → k * 3 + 2 < length old → {cs′ ks′ flat′ log′ : List ℕ} {r′ : Record} {h′ : Hint}
       → Held (enqueue t d (dequeue t o e)) ps ks′ flat′ r′ → cs′ ≡ set cs t d → log′ ≡ set (set (set log (k * 3) t) (k * 3 + 1) o) (k * 3 + 2) d
-      → Going m ps cs′ ms ks′ flat′ old log′ (k + 1) r′
-  going-on {t} {o} {d} n h held ec el =
+      → Hinted (enqueue t d (dequeue t o e)) h′ → Going m ps cs′ ms ks′ flat′ old log′ (k + 1) r′ h′
+  going-on {t} {o} {d} n h held ec el known =
       record {
         steps = g .steps ++ (record { task = t; origin = o; target = d } ∷ []);
         reached = enqueue t d (dequeue t o e);
@@ -110,6 +128,7 @@ module _ {m : Machine} (w : WellFormed m) {ps cs ms ks flat old log : List ℕ} 
         moves = ap (λ (i : ℕ). i + 1) (g .moves) ∙ sym (length-append (g .steps) (record { task = t; origin = o; target = d } ∷ []));
         logs = el ∙ ap (λ (q : List ℕ). set (set (set q (k * 3) t) (k * 3 + 1) o) (k * 3 + 2) d) (g .logs)
             ∙ logged-snoc (g .steps) (record { task = t; origin = o; target = d }) old k (g .moves) h;
+        hint = known;
       }
 
   -- lengths stay

@@ -1,26 +1,28 @@
 // Steps until none applies, each with an entry in the move log.
 ghost use mathlib.Core.Path.{_≡_};
-ghost use Prim.Native.Nat.{_+_, _*_, _≤_, _<_};
+ghost use Prim.Native.Nat.{_+_, _*_, _<_};
 ghost use lib.ListN.{length, set};
-ghost use Rattle.bits.specs.Bit.{lowest};
 ghost use Rattle.bits.specs.Moments.{old, new};
 ghost use Rattle.levels.specs.Lent.{nowRecord, oldRecord, newRecord};
-ghost use Rattle.cpupri.specs.Level.{levelOf};
-ghost use Rattle.cpupri.specs.Found.{lowestLevel, allowedAt};
-ghost use Rattle.rules.specs.Machine.{Machine, taskPlaces, highestPriority, enqueue, dequeue};
+ghost use Rattle.rules.specs.Machine.{Machine, taskPlaces, enqueue, dequeue};
 ghost use Rattle.rules.specs.Migration.{settleAll};
 ghost use Rattle.rules.specs.Tables.{logPlaces};
 ghost use Rattle.placement.specs.Held.{Held};
+ghost use Rattle.hinting.specs.Hinted.{Hinted};
 ghost use Rattle.migration.specs.Settling.{Settling, Stepping, Ended};
-use cpupri::find::Found;
-use cpupri::level::Level;
+use choosing::choose;
 use cpupri::record::CPUS;
 use cpupri::record::LEVELS;
 use cpupri::record::WORDS;
-use mover::pick::pick;
+use hinting::hint::Hint;
+use hinting::hint::after;
+use hinting::hint::nobody;
+use runqueue::row::NOTHING;
 
-// Takes the steps of a machine of n CPUs, and says how many there were. There are at most n - 1, so the log has room.
+// Takes the steps of a machine of n CPUs, of which the hint is true, and says how many there were. There are at most n - 1, so the
+// log has room.
 pub fn settle(
+    hint: Hint,
     n: usize,
     prio: &[u8],
     cpu: &mut [u8],
@@ -34,23 +36,27 @@ pub fn settle(
     levels: &mut [u8; CPUS],
 ) -> usize
     requires { let r = nowRecord masks tallies words levels in
-        ⌜ ((m : Machine) × (Settling m (now prio) (now cpu) (now mask) (now counts) (now rows) r × (n ≡ m .n))) ⌝ }
+        ⌜ ((m : Machine) × (Settling m (now prio) (now cpu) (now mask) (now counts) (now rows) r × (n ≡ m .n) × Hinted m hint)) ⌝ }
     requires { ⌜ length (now log) ≡ logPlaces ⌝ }
     ensures { λ k. let r = oldRecord masks tallies words levels in
         let s = newRecord masks tallies words levels in
-        ⌜ ((m : Machine) → Settling m (old prio) (old cpu) (old mask) (old counts) (old rows) r → n ≡ m .n
+        ⌜ ((m : Machine) → Settling m (old prio) (old cpu) (old mask) (old counts) (old rows) r → n ≡ m .n → Hinted m hint
         → Ended (settleAll m) (old prio) (new cpu) (new counts) (new rows) (old log) (new log) k s) ⌝ }
 {
+    if nobody(hint) {
+        return 0;
+    }
     let mut moves = 0;
+    let mut known = hint;
     loop {
-        let mover = pick(n, prio, mask, rows, counts, masks);
-        let priority = mover.priority;
-        if priority == 0 {
+        let step = choose(known, n, prio, cpu, mask, rows, counts, masks, levels);
+        let task = step.task;
+        if task == NOTHING {
             return moves;
         }
-        let task = mover.task;
-        let origin = mover.origin;
-        let target = destination(masks, priority, mask[task as usize]);
+        let origin = step.origin;
+        let target = step.target;
+        known = after(known, rows, task, target);
         note(log, moves, task, origin, target);
         migrate(
             rows,
@@ -106,25 +112,6 @@ fn migrate(
         target,
         task,
     );
-}
-
-// Of the CPUs of the mask, one of the lowest level; among equals the lowest-numbered.
-fn destination(masks: &[u64; LEVELS], priority: u8, mask: u64) -> usize
-    requires { ⌜ priority ≤ highestPriority ⌝ }
-    requires { ⌜ lowestLevel (now masks) (levelOf priority) mask < levelOf priority ⌝ }
-    ensures { λ r. ⌜ r ≡ lowest 64 (allowedAt (old masks) mask (lowestLevel (old masks) (levelOf priority) mask)) ⌝ }
-{
-    let level = Level::of_priority(priority);
-    let below = level.number as usize;
-    let found = cpupri::find::lowest(masks, below, mask);
-    match found {
-        Found::Cpus {
-            level: _,
-            mask: cpus,
-        } => bits::lowest_bit(cpus) as usize,
-        Found::Nothing => 0,
-        Found::Refused(_) => 0,
-    }
 }
 
 // Entry `entry` of the log: the mover, the CPU it waited on, its destination.

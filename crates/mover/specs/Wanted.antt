@@ -1,23 +1,48 @@
--- Which waiting task of a row the search for the mover wants, in terms of the lent columns and the record's masks.
+-- Which waiting task of a row is looked for, in terms of the lent columns and the record's masks.
 -- Assumes nothing.
 use mathlib.Core.Path.{_≡_}
-use mathlib.Core.Bool.{Bool, _&&_}
+use mathlib.Core.Bool.{Bool, cond, _&&_, _||_}
 use mathlib.Core.List.{List}
-use Prim.Native.Nat.{ℕ, _≤_, _<_}
-use lib.Dec.{ltb}
+use Prim.Native.Nat.{ℕ, _-_, _≤_, _<_}
+use lib.Dec.{eqb, ltb}
 use lib.ListN.{length, getD, take}
+use Rattle.bits.specs.Bit.{bit}
 use Rattle.cpupri.specs.Level.{levelOf}
 use Rattle.cpupri.specs.Found.{lowestLevel}
 use Rattle.rules.specs.Lists.{Falling}
-use Rattle.rules.specs.Machine.{taskPlaces, highestPriority}
+use Rattle.rules.specs.Machine.{Machine, prioOf, allowed, taskPlaces, highestPriority, cpuPlaces}
+use Rattle.rules.specs.Migration.{movable}
+use Rattle.rules.specs.Tables.{nothing}
+use Rattle.mover.specs.declared.scan.Test.{Test}
+use Rattle.mover.specs.declared.scan.Test.the-variants.{Movable, Drawn}
 
--- some CPU that task u may use is below its level, as the finder sees it; ps are the priorities, ms the affinity masks
-unfoldable pub findable : List ℕ → List ℕ → List ℕ → ℕ → Bool
-findable masks ps ms u = ltb (lowestLevel masks (levelOf (getD ps u 0)) (getD ms u 0)) (levelOf (getD ps u 0))
+-- ---- the test
 
--- and it is above the priority `floor`
-unfoldable pub wanted : List ℕ → List ℕ → List ℕ → ℕ → ℕ → Bool
-wanted masks ps ms floor u = ltb floor (getD ps u 0) && findable masks ps ms u
+-- a test that can be asked names one of the CPU places
+abbrev pub Asked : Test → Type 0
+Asked Movable = Unit {0}
+Asked (Drawn c l new) = c < cpuPlaces
+
+-- in the rules' words
+abbrev pub meant : Machine → Test → ℕ → Bool
+meant m Movable u = movable m u
+meant m (Drawn c l new) u = eqb u new || (allowed m u c && ltb l (levelOf (prioOf m u)))
+
+-- of a task with this priority and mask, by the record's masks: some CPU that it may use is below its level, as the finder sees it
+unfoldable pub passing : Test → List ℕ → ℕ → ℕ → ℕ → Bool
+passing Movable masks u p k = ltb (lowestLevel masks (levelOf p) k) (levelOf p)
+passing (Drawn c l new) masks u p k = eqb u new || (bit k c && ltb l (levelOf p))
+
+-- who passes is above this priority
+abbrev pub least : Test → ℕ
+least Movable = 0
+least (Drawn c l new) = cond (eqb new nothing) (l - levelOf 0) 0
+
+-- ---- the walk along a row
+
+-- task u passes and is above the priority `floor`; ps are the priorities, ms the affinity masks
+unfoldable pub wanted : Test → List ℕ → List ℕ → List ℕ → ℕ → ℕ → Bool
+wanted test masks ps ms floor u = ltb floor (getD ps u 0) && passing test masks u (getD ps u 0) (getD ms u 0)
 
 -- a row that can be searched: tasks with priorities, which fall
 pub record Searchable (ps ms places : List ℕ) (count : ℕ) : Type 0 where

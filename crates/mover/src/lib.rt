@@ -1,3 +1,3 @@
-// The mover of a migration step: the waiting tasks of one row, then of all rows.
+// The foremost of the waiting tasks that pass a test: of one row, then of all rows.
 pub mod pick;
 pub mod scan;

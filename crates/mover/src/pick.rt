@@ -1,5 +1,5 @@
-// The mover: the movable task of highest priority, among equals the one on the lowest-numbered CPU, and
-// among those the earliest in its row.
+// The foremost of the waiting tasks that pass a test: that of highest priority, among equals the one on the
+// lowest-numbered CPU, and among those the earliest in its row.
 ghost use mathlib.Core.Path.{_≡_};
 ghost use Prim.Native.Nat.{suc, _≤_, _<_};
 ghost use lib.ListN.{getD};
@@ -7,19 +7,24 @@ ghost use Rattle.bits.specs.Moments.{old};
 ghost use Rattle.rules.specs.Machine.{Machine};
 ghost use Rattle.mover.specs.Foremost.{Looking, BestOf};
 ghost use Rattle.mover.specs.Waiting.{NextWaiting};
+ghost use Rattle.mover.specs.Wanted.{Asked, meant, least as leastOf};
+use super::scan::Test;
 use super::scan::scan;
 use cpupri::record::LEVELS;
+use runqueue::row::NOTHING;
 use runqueue::row::PLACES;
 
-// A candidate, and the CPU it waits on. Priority 0: there is none.
+// A candidate, the CPU it waits on and its priority. Task 65535: there is none, and who passes the test is
+// above this priority.
 pub struct Mover {
     pub task: u16,
     pub origin: usize,
     pub priority: u8,
 }
 
-// The mover of a machine of n CPUs. A row is left at the first task that cannot beat the best so far.
+// Of a machine of n CPUs. A row is left at the first task that cannot beat the best so far.
 pub fn pick(
+    test: Test,
     n: usize,
     prio: &[u8],
     mask: &[u64],
@@ -27,20 +32,37 @@ pub fn pick(
     counts: &[u16],
     masks: &[u64; LEVELS],
 ) -> Mover
+    requires { ⌜ Asked test ⌝ }
     requires { ⌜ ((m : Machine) × (Looking m (now prio) (now mask) (now counts) (now rows) (now masks) × (n ≡ m .n))) ⌝ }
-    ensures { λ r. ⌜ ((m : Machine) → Looking m (old prio) (old mask) (old counts) (old rows) (old masks) → n ≡ m .n → BestOf m n r) ⌝ }
+    ensures { λ r. ⌜ ((m : Machine) → Looking m (old prio) (old mask) (old counts) (old rows) (old masks) → n ≡ m .n
+        → BestOf (meant m test) m n r) ⌝ }
 {
     let mut best = Mover {
-        task: 0,
+        task: NOTHING,
         origin: 0,
-        priority: 0,
+        priority: least(test),
     };
     let mut cpu = next_waiting(counts, 0, n);
     while cpu < n {
-        best = better(best, cpu, prio, mask, rows, counts, masks);
+        best = better(test, best, cpu, prio, mask, rows, counts, masks);
         cpu = next_waiting(counts, cpu + 1, n);
     }
     best
+}
+
+// A priority that is below that of every task which passes the test.
+fn least(test: Test) -> u8
+    ensures { λ r. ⌜ r ≡ leastOf test ⌝ }
+{
+    match test {
+        Test::Movable => 0,
+        Test::Drawn { cpu: _, level, new } => {
+            if (new == NOTHING) & (2 < level) {
+                return level - 2;
+            }
+            0
+        }
+    }
 }
 
 // The first CPU on which a task waits, from the CPU `from` on; n if there is none.
@@ -77,6 +99,7 @@ fn last_waiting(counts: &[u16], at: usize, n: usize) -> usize
 
 // The better of the best so far and the waiting tasks of one more CPU.
 fn better(
+    test: Test,
     best: Mover,
     cpu: usize,
     prio: &[u8],
@@ -85,15 +108,17 @@ fn better(
     counts: &[u16],
     masks: &[u64; LEVELS],
 ) -> Mover
+    requires { ⌜ Asked test ⌝ }
     requires { ⌜ ((m : Machine) × (Looking m (now prio) (now mask) (now counts) (now rows) (now masks)
         × (cpu < m .n) × (2 ≤ getD (now counts) cpu 0))) ⌝ }
     ensures { λ r. ⌜ ((m : Machine) → Looking m (old prio) (old mask) (old counts) (old rows) (old masks)
-        → cpu < m .n → BestOf m cpu best → BestOf m (suc cpu) r) ⌝ }
+        → cpu < m .n → BestOf (meant m test) m cpu best → BestOf (meant m test) m (suc cpu) r) ⌝ }
 {
     let count = counts[cpu] as usize;
     let start = cpu * PLACES;
     let floor = best.priority;
     let at = scan(
+        test,
         &rows[start..start + PLACES],
         prio,
         mask,

@@ -2,22 +2,27 @@
 ghost use mathlib.Core.Path.{_≡_};
 ghost use mathlib.Core.List.{tail};
 ghost use Prim.Native.Nat.{suc, _≤_};
-ghost use lib.Dec.{ltb};
 ghost use lib.ListN.{take};
 ghost use Rattle.bits.specs.Moments.{old};
-ghost use Rattle.cpupri.specs.Level.{levelOf};
-ghost use Rattle.cpupri.specs.Found.{lowestLevel};
 ghost use Rattle.rules.specs.Machine.{highestPriority};
 ghost use Rattle.runqueue.specs.Row.{ahead};
-ghost use Rattle.mover.specs.Wanted.{wanted, Searchable};
+ghost use Rattle.mover.specs.Wanted.{Asked, passing, wanted, Searchable};
 use cpupri::find::lowest_level;
 use cpupri::level::Level;
 use cpupri::record::LEVELS;
 
-// The place of the first waiting task that is above the priority `floor` and has an allowed CPU below
-// its level, or `count` if there is none. Priorities fall along a row, so the walk ends at the first
-// task that is not above the floor.
+// Who is looked for among the waiting tasks.
+pub enum Test {
+    // who has an allowed CPU below its level
+    Movable,
+    // who may use the CPU `cpu`, whose level `level` is below its own; and the task `new`
+    Drawn { cpu: usize, level: u8, new: u16 },
+}
+
+// The place of the first waiting task that is above the priority `floor` and passes the test, or `count` if
+// there is none. Priorities fall along a row, so the walk ends at the first task that is not above the floor.
 pub fn scan(
+    test: Test,
     row: &[u16],
     prio: &[u8],
     mask: &[u64],
@@ -25,17 +30,19 @@ pub fn scan(
     count: usize,
     floor: u8,
 ) -> usize
+    requires { ⌜ Asked test ⌝ }
     requires { ⌜ Searchable (now prio) (now mask) (now row) count ⌝ }
-    ensures { λ r. ⌜ r ≡ suc (ahead (wanted (old masks) (old prio) (old mask) floor) (tail (take count (old row)))) ⌝ }
+    ensures { λ r. ⌜ r ≡ suc (ahead (wanted test (old masks) (old prio) (old mask) floor) (tail (take count (old row)))) ⌝ }
 {
     let mut at = 1;
     while at < count {
-        let task = row[at] as usize;
-        let priority = prio[task];
+        let task = row[at];
+        let place = task as usize;
+        let priority = prio[place];
         if priority <= floor {
             return count;
         }
-        if has_lower_cpu(masks, priority, mask[task]) {
+        if passes(test, masks, task, priority, mask[place]) {
             return at;
         }
         at += 1;
@@ -43,12 +50,19 @@ pub fn scan(
     count
 }
 
-// Whether some CPU of the mask is below the level of this priority.
-fn has_lower_cpu(masks: &[u64; LEVELS], priority: u8, mask: u64) -> bool
+// Whether a task of this priority and mask passes the test.
+fn passes(test: Test, masks: &[u64; LEVELS], task: u16, priority: u8, mask: u64) -> bool
+    requires { ⌜ Asked test ⌝ }
     requires { ⌜ priority ≤ highestPriority ⌝ }
-    ensures { λ b. ⌜ b ≡ ltb (lowestLevel (old masks) (levelOf priority) mask) (levelOf priority) ⌝ }
+    ensures { λ b. ⌜ b ≡ passing test (old masks) task priority mask ⌝ }
 {
-    let level = Level::of_priority(priority);
-    let below = level.number as usize;
-    lowest_level(masks, below, mask) < below
+    let own = Level::of_priority(priority).number;
+    match test {
+        Test::Movable => {
+            let below = own as usize;
+            lowest_level(masks, below, mask) < below
+        }
+        Test::Drawn { cpu, level, new } => (task == new)
+            | (bits::test_bit(mask, cpu) & (level < own)),
+    }
 }

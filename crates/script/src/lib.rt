@@ -131,8 +131,7 @@ fn asked(t: Tables, e: Event) -> Tables {
 // The answer to an event of this kind, and the tables after it unless it was refused or an add.
 fn told(t: Tables, kind: u32) {
     let last = t.last;
-    let queues = t.queues;
-    let log = queues.log;
+    let log = t.log;
     print::answered(last.answer, last.moves, &log);
     if last.answer == ACCEPTED && kind != ADD {
         shown(t);
@@ -141,17 +140,15 @@ fn told(t: Tables, kind: u32) {
 
 // The rows, counts and levels of the CPUs, and the tasks.
 fn shown(t: Tables) {
-    let queues = t.queues;
-    let rows = queues.rows;
-    let counts = queues.counts;
+    let rows = t.rows;
+    let counts = t.counts;
     print::rows(t.n, &rows, &counts);
     print::counts(t.n, &counts);
     let record = t.record();
     let levels = record.levels;
     print::levels(t.n, &levels);
-    let columns = t.columns;
-    let state = columns.state;
-    let cpu = columns.cpu;
-    let slice = columns.slice;
+    let state = t.state;
+    let cpu = t.cpu;
+    let slice = t.slice;
     print::tasks(&state, &cpu, &slice);
 }

@@ -10,32 +10,22 @@ use rules::task::FIFO;
 use rules::task::FULL_SLICE;
 use rules::task::RUNNABLE;
 
-// Rows, counts and flags are lent for `lent` CPUs; anything but n is a wrong length. The answer, the moves and the record are those of the
-// last call.
+// The tables are lent for `lent` CPUs, the first of 65 rows, counts and flags; anything but n is a wrong length. The answer, the moves and the
+// record are those of the last call.
 pub struct Tables {
     pub n: u8,
     pub lent: u8,
-    pub columns: Columns,
-    pub queues: Queues,
-    pub last: Outcome,
-}
-
-// The task columns.
-pub struct Columns {
     pub state: [u8; 512],
     pub policy: [u8; 512],
     pub prio: [u8; 512],
     pub cpu: [u8; 512],
     pub slice: [u16; 512],
     pub mask: [u64; 512],
-}
-
-// The first of 65 rows are lent, and so with the counts and flags.
-pub struct Queues {
     pub rows: [u16; 33280],
     pub counts: [u16; 65],
     pub flags: [u8; 65],
     pub log: [u16; 189],
+    pub last: Outcome,
 }
 
 // The five numbers of an event.
@@ -52,37 +42,6 @@ fn part(cpus: u8) -> usize
     ensures { λ r. ⌜ r ≤ 65 ⌝ }
 {
     if cpus < 65 { cpus as usize } else { 65 }
-}
-
-impl Columns {
-    fn of(
-        state: [u8; 512],
-        policy: [u8; 512],
-        prio: [u8; 512],
-        cpu: [u8; 512],
-        slice: [u16; 512],
-        mask: [u64; 512],
-    ) -> Columns {
-        Columns {
-            state,
-            policy,
-            prio,
-            cpu,
-            slice,
-            mask,
-        }
-    }
-}
-
-impl Queues {
-    fn of(rows: [u16; 33280], counts: [u16; 65], flags: [u8; 65], log: [u16; 189]) -> Queues {
-        Queues {
-            rows,
-            counts,
-            flags,
-            log,
-        }
-    }
 }
 
 impl Tables {
@@ -113,36 +72,36 @@ impl Tables {
             &mut log,
             Record::fresh(0),
         );
-        let columns = Columns::of(state, policy, prio, cpu, slice, mask);
-        let queues = Queues::of(rows, counts, flags, log);
-        Tables::of(n, n, columns, queues, first(made))
-    }
-
-    fn of(n: u8, lent: u8, columns: Columns, queues: Queues, last: Outcome) -> Tables {
         Tables {
             n,
-            lent,
-            columns,
-            queues,
-            last,
+            lent: n,
+            state,
+            policy,
+            prio,
+            cpu,
+            slice,
+            mask,
+            rows,
+            counts,
+            flags,
+            log,
+            last: first(made),
         }
     }
 
     // One event.
     pub fn event(self, e: Event) -> Tables {
         let cpus = part(self.lent);
-        let columns = self.columns;
-        let mut state = columns.state;
-        let mut policy = columns.policy;
-        let mut prio = columns.prio;
-        let mut cpu = columns.cpu;
-        let mut slice = columns.slice;
-        let mut mask = columns.mask;
-        let queues = self.queues;
-        let mut rows = queues.rows;
-        let mut counts = queues.counts;
-        let mut flags = queues.flags;
-        let mut log = queues.log;
+        let mut state = self.state;
+        let mut policy = self.policy;
+        let mut prio = self.prio;
+        let mut cpu = self.cpu;
+        let mut slice = self.slice;
+        let mut mask = self.mask;
+        let mut rows = self.rows;
+        let mut counts = self.counts;
+        let mut flags = self.flags;
+        let mut log = self.log;
         let o = machine::event(
             self.n as usize,
             &mut state,
@@ -162,9 +121,21 @@ impl Tables {
             e.mask,
             self.record(),
         );
-        let columns = Columns::of(state, policy, prio, cpu, slice, mask);
-        let queues = Queues::of(rows, counts, flags, log);
-        Tables::of(self.n, self.lent, columns, queues, o)
+        Tables {
+            n: self.n,
+            lent: self.lent,
+            state,
+            policy,
+            prio,
+            cpu,
+            slice,
+            mask,
+            rows,
+            counts,
+            flags,
+            log,
+            last: o,
+        }
     }
 
     // The record, as the last call handed it back.
@@ -176,18 +147,16 @@ impl Tables {
     // The check of the tables: its answer.
     pub fn check(self) -> u8 {
         let cpus = part(self.lent);
-        let columns = self.columns;
-        let state = columns.state;
-        let policy = columns.policy;
-        let prio = columns.prio;
-        let cpu = columns.cpu;
-        let slice = columns.slice;
-        let mask = columns.mask;
-        let queues = self.queues;
-        let rows = queues.rows;
-        let counts = queues.counts;
-        let flags = queues.flags;
-        let log = queues.log;
+        let state = self.state;
+        let policy = self.policy;
+        let prio = self.prio;
+        let cpu = self.cpu;
+        let slice = self.slice;
+        let mask = self.mask;
+        let rows = self.rows;
+        let counts = self.counts;
+        let flags = self.flags;
+        let log = self.log;
         checker::check::check(
             self.n as usize,
             &state,
@@ -213,36 +182,34 @@ impl Tables {
 
     // One number of a table by itself. The tables are numbered in document 01's order.
     pub fn put(self, table: u64, place: u64, value: u64) -> Tables {
-        let mut c = self.columns;
-        let mut q = self.queues;
+        let mut t = self;
         let i = below(place, 512);
         match table {
-            1 => c.state[i] = small(value),
-            3 => c.prio[i] = small(value),
-            4 => c.cpu[i] = small(value),
-            5 => c.slice[i] = half(value),
-            9 => q.flags[below(place, 65)] = small(value),
+            1 => t.state[i] = small(value),
+            3 => t.prio[i] = small(value),
+            4 => t.cpu[i] = small(value),
+            5 => t.slice[i] = half(value),
+            9 => t.flags[below(place, 65)] = small(value),
             _ => {}
         }
-        Tables::of(self.n, self.lent, c, q, self.last)
+        t
     }
 
     // A FIFO task that runs on an idle CPU, without an event. No other CPU may be at its level.
     pub fn give(self, cpu: u64, task: u64, priority: u64, mask: u64) -> Tables {
         let i = below(task, 512);
-        let mut c = self.columns;
-        c.state[i] = RUNNABLE;
-        c.policy[i] = FIFO;
-        c.prio[i] = small(priority);
-        c.cpu[i] = small(cpu);
-        c.slice[i] = FULL_SLICE;
-        c.mask[i] = mask;
+        let mut t = self;
+        t.state[i] = RUNNABLE;
+        t.policy[i] = FIFO;
+        t.prio[i] = small(priority);
+        t.cpu[i] = small(cpu);
+        t.slice[i] = FULL_SLICE;
+        t.mask[i] = mask;
         let row = below(cpu, 64);
-        let mut q = self.queues;
-        q.rows[512 * row] = half(task);
-        q.counts[row] = 1;
-        let record = busy(self.record(), row, below(priority, 100) + 2);
-        Tables::of(self.n, self.lent, c, q, with(record))
+        t.rows[512 * row] = half(task);
+        t.counts[row] = 1;
+        t.last = with(busy(self.record(), row, below(priority, 100) + 2));
+        t
     }
 }
 

@@ -1,7 +1,7 @@
 //! The plain version.
 
 use crate::side::{found, outcome, sum, Side, Work};
-use binding::{Event, Tables};
+use binding::{Event, Tables, TASKS};
 use plain::Record;
 use std::hint::black_box;
 
@@ -39,10 +39,13 @@ impl Side for ByHand {
                 let o = plain::event(&mut self.tables, &mut self.record, &event(e));
                 outcome(o.answer, o.moves)
             })),
-            Work::Inner(events) => sum(events.iter().map(|e| {
-                let o = plain::handle(&mut self.tables, &mut self.record, &event(e));
-                outcome(o.answer, o.moves)
-            })),
+            Work::Inner(events) => {
+                let mut t = self.tables.lend().expect("right lengths");
+                sum(events.iter().map(|e| {
+                    let o = plain::handle(&mut t, &mut self.record, &event(e), true);
+                    outcome(o.answer, o.moves)
+                }))
+            }
             Work::Find { times, level, mask } => sum((0..*times).map(|_| {
                 let side = black_box(&*self);
                 let f = plain::find(side.tables.n, &side.record, *level, *mask);
@@ -61,7 +64,7 @@ impl Side for ByHand {
             cpu: t.cpu,
             slice: t.slice,
             mask: t.mask,
-            rows: t.rows,
+            rows: t.rows.concat(),
             counts: t.counts,
             flags: t.flags,
             log: t.log,
@@ -95,6 +98,7 @@ fn record(t: &Tables) -> Record {
 
 fn tables(t: &Tables) -> plain::Tables {
     let t = t.clone();
+    let row = |places: &[u16]| places.try_into().expect("a whole row");
     plain::Tables {
         n: t.n,
         state: t.state,
@@ -103,7 +107,7 @@ fn tables(t: &Tables) -> plain::Tables {
         cpu: t.cpu,
         slice: t.slice,
         mask: t.mask,
-        rows: t.rows,
+        rows: t.rows.chunks(TASKS).map(row).collect(),
         counts: t.counts,
         flags: t.flags,
         log: t.log,

@@ -19,10 +19,14 @@ pub fn has((n, tasks): (usize, usize)) -> bool {
     SIZES.contains(&n) && LOADS.contains(&tasks)
 }
 
-/// One machine: CPUs, tasks, and the time of each version.
+/// The compared versions that a growth is given of.
+pub const SIDES: [&str; 2] = ["library", "plain"];
+
+/// One machine: CPUs, tasks, how many of them wait at the start, and the time of each version.
 struct Point {
     n: usize,
     tasks: usize,
+    waiting: usize,
     row: Row,
 }
 
@@ -41,7 +45,13 @@ fn measure(
             let scene = mixed(n, tasks);
             let key = format!("{section} {n} {tasks}");
             let row = run.row(key, &mut sides(&scene), &work(&scene));
-            points.push(Point { n, tasks, row });
+            let waiting = scene.waiting();
+            points.push(Point {
+                n,
+                tasks,
+                waiting,
+                row,
+            });
         }
     }
     points
@@ -129,10 +139,12 @@ fn against_second(p: &Point) -> Vec<String> {
 pub fn inner(run: &mut Run) {
     say("Inner event (tables not checked), the same mix, ns an event\n");
     let points = measure(run, "inner", two, |scene| Work::Inner(scene.events.clone()));
-    let head = ["N", "tasks", "library", "plain", "library/plain"];
+    let head = ["N", "tasks", "waiting", "library", "plain", "library/plain"];
     let mut table = Table::new(&head);
     for p in &points {
-        let mut cells = vec![p.n.to_string(), p.tasks.to_string()];
+        let mut cells = [p.n, p.tasks, p.waiting]
+            .map(|number| number.to_string())
+            .to_vec();
         cells.extend(against_plain(&p.row));
         table.row(cells);
     }
@@ -144,22 +156,30 @@ pub fn against_plain(row: &Row) -> Vec<String> {
     vec![ns(row.times[0]), ns(row.times[1]), to_plain(row)]
 }
 
-/// What a CPU more and a task more cost, from the ends of the grid.
+/// What a CPU more, a task more and a waiting task more cost, from the ends of the grid.
 fn growth(points: &[Point]) {
     if points.len() < SIZES.len() * LOADS.len() {
         return;
     }
-    let at = |n, tasks, side: usize| {
-        let point = points.iter().find(|p| p.n == n && p.tasks == tasks);
-        point.map_or(f64::NAN, |p| p.row.times[side])
-    };
+    let at = |n, tasks| points.iter().find(|p| p.n == n && p.tasks == tasks);
     let (few, many) = (LOADS[0], LOADS[2]);
-    for (side, name) in ["library", "plain"].iter().enumerate() {
-        let cpu = (at(64, few, side) - at(1, few, side)) / 63.0;
-        let spread = (at(64, many, side) - at(64, few, side)) / (many - few) as f64;
-        let piled = (at(1, many, side) - at(1, few, side)) / (many - few) as f64;
+    let ends = [at(1, few), at(1, many), at(64, few), at(64, many)];
+    let [Some(one_few), Some(one_many), Some(all_few), Some(all_many)] = ends else {
+        return;
+    };
+    for (side, name) in SIDES.iter().enumerate() {
+        let more = |less: &Point, more: &Point, count: fn(&Point) -> usize| {
+            let counted = (count(more) - count(less)) as f64;
+            (more.row.times[side] - less.row.times[side]) / counted
+        };
+        let cpu = more(one_few, all_few, |p| p.n);
+        let spread = more(all_few, all_many, |p| p.tasks);
+        let piled = more(one_few, one_many, |p| p.tasks);
+        let spread_waiting = more(all_few, all_many, |p| p.waiting);
+        let piled_waiting = more(one_few, one_many, |p| p.waiting);
         say(&format!(
-            "{name}: {cpu:.1} ns for a CPU more (16 tasks); {spread:.1} ns for a task more on 64 CPUs, {piled:.1} ns on one"
+            "{name}: {cpu:.2} ns for a CPU more (16 tasks); {spread:.2} ns for a task more on 64 CPUs, {piled:.2} ns on one; \
+             {spread_waiting:.2} ns for a waiting task more on 64 CPUs, {piled_waiting:.2} ns on one"
         ));
     }
     say("");

@@ -15,10 +15,19 @@ const ORDINARY: u32 = 9;
 /// How many events of a mix are timed at once.
 const MIXED: usize = 256;
 
-/// Tables to start from, and the events from there on, all of them accepted.
+/// Tables to start from, and the events from there on, all of them accepted. They are a settled machine's: a fresh one
+/// on which events were accepted.
 pub struct Scene {
     pub start: Tables,
     pub events: Vec<Event>,
+}
+
+impl Scene {
+    /// How many tasks wait at the start.
+    pub fn waiting(&self) -> usize {
+        let waiting = |&count: &u16| count.saturating_sub(1) as usize;
+        self.start.counts.iter().map(waiting).sum()
+    }
 }
 
 fn event(kind: u32, who: usize) -> Event {
@@ -163,6 +172,36 @@ pub fn yields() -> Scene {
         start: t,
         events: vec![event(YIELD, 0); 16],
     }
+}
+
+/// CPUs that fall idle in `draws`.
+const FALLING: usize = 8;
+
+/// 64 CPUs, of which the first 8 run one task each, and on each of the others so many tasks wait. The first 8 tasks go to
+/// sleep, one after the other: each time a CPU falls idle, and all who wait are looked at. They are pinned; but with
+/// `drawn` the last one of the last CPU may use the idle one and goes there.
+pub fn draws(waiting: usize, drawn: bool) -> Scene {
+    let mut t = fresh(64);
+    for c in 0..64 {
+        put(&mut t, c, 1, 60, 1 << c);
+    }
+    for i in 0..waiting * (64 - FALLING) {
+        put(&mut t, 64 + i, 1, 50, 1 << (FALLING + i / waiting));
+    }
+    let last = 64 + waiting * (64 - FALLING);
+    for c in (0..FALLING).filter(|_| drawn) {
+        let e = Event {
+            mask: 1 << 63 | 1 << c,
+            ..event(AFFINITY, last - FALLING + c)
+        };
+        accept(&mut t, e);
+    }
+    let events: Vec<Event> = (0..FALLING).rev().map(|c| event(SLEEP, c)).collect();
+    let mut after = t.clone();
+    for &e in &events {
+        assert_eq!(after.event(e).moves, u32::from(drawn));
+    }
+    Scene { start: t, events }
 }
 
 /// All n CPUs idle.

@@ -3,7 +3,6 @@
 mod by_hand;
 mod finder;
 mod grid;
-mod inner;
 mod keep;
 mod machines;
 mod ours;

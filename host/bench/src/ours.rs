@@ -1,18 +1,18 @@
 //! The proved library.
 
-use crate::inner::Checked;
 use crate::side::{found, outcome, sum, Side, Work};
 use binding::Tables;
+use inner::Settled;
 use std::hint::black_box;
 
 pub struct Ours {
-    start: Checked,
-    now: Checked,
+    start: Settled,
+    now: Settled,
 }
 
 impl Ours {
     pub fn new(start: &Tables) -> Ours {
-        let start = Checked::new(start.clone());
+        let start = Settled::new(start.clone());
         let now = start.clone();
         Ours { start, now }
     }

@@ -20,6 +20,23 @@ pub struct Answer {
     pub mask: u64,
 }
 
+/// Whether an event was also run without its check of the tables, which they pass.
+#[derive(Clone, Copy, Debug, PartialEq, Eq)]
+pub enum Inner {
+    No,
+    /// On a machine that is not settled.
+    Unsettled,
+    /// On a settled machine, both told so and not.
+    Settled,
+}
+
+/// What a call gave: the same on both sides.
+#[derive(Clone, Copy, Debug, PartialEq, Eq)]
+pub struct Agreed {
+    pub answer: Answer,
+    pub inner: Inner,
+}
+
 impl Answer {
     pub fn plain(number: u8) -> Answer {
         Answer {

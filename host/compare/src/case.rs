@@ -61,7 +61,7 @@ impl Case {
         counters.cases += 1;
         for i in 0..self.calls.len() {
             match pair.call(self.calls[i]) {
-                Ok(answer) => counters.count(self.calls[i], answer),
+                Ok(agreed) => counters.count(self.calls[i], agreed),
                 Err(difference) => {
                     self.calls.truncate(i + 1);
                     return Some(origin.failure(self, counters, difference));

@@ -1,6 +1,6 @@
 //! What a run has done, and the least it must have done.
 
-use crate::call::{Answer, Call};
+use crate::call::{Agreed, Call, Inner};
 use std::fmt;
 
 #[derive(Clone, Debug)]
@@ -13,6 +13,11 @@ pub struct Counters {
     pub accepted: [u64; 10],
     /// By number of moves.
     pub moves: [u64; 64],
+    /// Events also run without their check, on any machine; and on settled ones, told so, with the accepted of these by
+    /// number of moves.
+    pub inner: u64,
+    pub settled: u64,
+    pub settled_moves: [u64; 64],
     /// Finder: a level found, and none.
     pub found: u64,
     pub found_none: u64,
@@ -26,6 +31,9 @@ impl Default for Counters {
             answers: [[0; 10]; 4],
             accepted: [0; 10],
             moves: [0; 64],
+            inner: 0,
+            settled: 0,
+            settled_moves: [0; 64],
             found: 0,
             found_none: 0,
         }
@@ -55,7 +63,8 @@ pub const REFUSALS: [(usize, usize); 16] = [
 ];
 
 impl Counters {
-    pub fn count(&mut self, call: Call, answer: Answer) {
+    pub fn count(&mut self, call: Call, agreed: Agreed) {
+        let answer = agreed.answer;
         let entry = match call {
             Call::MakeFresh => 0,
             Call::Check => 1,
@@ -72,6 +81,11 @@ impl Counters {
             Call::Find(..) if answer.number == 0 && answer.mask == 0 => self.found_none += 1,
             Call::Find(..) if answer.number == 0 => self.found += 1,
             _ => (),
+        }
+        self.inner += u64::from(agreed.inner != Inner::No);
+        if agreed.inner == Inner::Settled {
+            self.settled += 1;
+            self.settled_moves[answer.moves as usize] += u64::from(answer.number == 0);
         }
     }
 
@@ -93,17 +107,37 @@ impl Counters {
         match (0..4).find(|&entry| self.answers[entry][0] < least) {
             Some(entry) => Err(format!("{} was accepted too seldom", ENTRIES[entry])),
             None if self.most_moves() < 63 => Err(String::from("no event had 63 moves")),
-            None => Ok(()),
+            None => self.inner_reached(least),
+        }
+    }
+
+    /// The same of the inner event: on any machine, on settled ones, and there with moves.
+    fn inner_reached(&self, least: u64) -> Result<(), String> {
+        let moved: u64 = self.settled_moves[1..].iter().sum();
+        for (what, times) in [
+            ("ran", self.inner),
+            ("ran on a settled machine", self.settled),
+            ("moved a task there", moved),
+        ] {
+            if times < least {
+                return Err(format!("the inner event {what} only {times} times"));
+            }
+        }
+        match most(&self.settled_moves) {
+            63 => Ok(()),
+            _ => Err(String::from("no event on a settled machine had 63 moves")),
         }
     }
 
     pub fn most_moves(&self) -> usize {
-        (0..64).rev().find(|&i| self.moves[i] > 0).unwrap_or(0)
+        most(&self.moves)
     }
 
     pub fn add(&mut self, other: &Counters) {
         self.calls += other.calls;
         self.cases += other.cases;
+        self.inner += other.inner;
+        self.settled += other.settled;
         self.found += other.found;
         self.found_none += other.found_none;
         for (a, b) in self
@@ -118,6 +152,9 @@ impl Counters {
             *a += b;
         }
         for (a, b) in self.moves.iter_mut().zip(other.moves) {
+            *a += b;
+        }
+        for (a, b) in self.settled_moves.iter_mut().zip(other.settled_moves) {
             *a += b;
         }
     }
@@ -138,19 +175,33 @@ impl fmt::Display for Counters {
             .collect();
         writeln!(f, "  accepted by kind {}", kinds.join(", "))?;
         writeln!(f, "  finder found {}, none {}", self.found, self.found_none)?;
-        let band = |from: usize, to: usize| self.moves[from..=to].iter().sum::<u64>();
+        writeln!(f, "  events by moves {}", by_moves(&self.moves))?;
+        let (inner, settled) = (self.inner, self.settled);
         writeln!(
             f,
-            "  events by moves 0: {}, 1: {}, 2: {}, 3: {}, 4-7: {}, 8-15: {}, 16-31: {}, 32-63: {}; most {}",
-            self.moves[0],
-            self.moves[1],
-            self.moves[2],
-            self.moves[3],
-            band(4, 7),
-            band(8, 15),
-            band(16, 31),
-            band(32, 63),
-            self.most_moves()
-        )
+            "  inner event {inner}, also told that the machine is settled {settled}"
+        )?;
+        writeln!(f, "  these by moves {}", by_moves(&self.settled_moves))
     }
+}
+
+/// The most moves of an event.
+fn most(moves: &[u64; 64]) -> usize {
+    (0..64).rev().find(|&i| moves[i] > 0).unwrap_or(0)
+}
+
+fn by_moves(moves: &[u64; 64]) -> String {
+    let band = |from: usize, to: usize| moves[from..=to].iter().sum::<u64>();
+    format!(
+        "0: {}, 1: {}, 2: {}, 3: {}, 4-7: {}, 8-15: {}, 16-31: {}, 32-63: {}; most {}",
+        moves[0],
+        moves[1],
+        moves[2],
+        moves[3],
+        band(4, 7),
+        band(8, 15),
+        band(16, 31),
+        band(32, 63),
+        most(moves)
+    )
 }

@@ -19,6 +19,8 @@ pub enum Difference {
     Demand3(String),
     /// The machine with which an accepted event ended is refused by our checker.
     IllFormed(u8),
+    /// The event without its check differs, told that the machine is settled or not.
+    Inner(bool, Box<Difference>),
 }
 
 impl fmt::Display for Difference {
@@ -51,6 +53,9 @@ impl fmt::Display for Difference {
             Difference::Demand3(part) => write!(f, "demand 3: {part}"),
             Difference::IllFormed(number) => {
                 write!(f, "the checker answers {number} after an accepted event")
+            }
+            Difference::Inner(settled, difference) => {
+                write!(f, "inner event, settled = {settled}: {difference}")
             }
         }
     }

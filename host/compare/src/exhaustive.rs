@@ -92,10 +92,10 @@ fn every_event(
     let mut pair = start.clone();
     for &call in calls.iter().filter(|call| tells(plan, call)) {
         match pair.call(call) {
-            Ok(answer) => {
-                counters.count(call, answer);
+            Ok(agreed) => {
+                counters.count(call, agreed);
                 // A refused call has left the pair as it was.
-                if answer.number == 0 {
+                if agreed.answer.number == 0 {
                     next(Plan::read(&pair.ours));
                     pair = start.clone();
                 }

@@ -12,7 +12,8 @@ use options::{parse, Options, HELP};
 use std::process::ExitCode;
 use std::time::Instant;
 
-/// The least number of times that each refusal and each kind of event must have come up in all modes together.
+/// The least number of times that each refusal, each kind of event and the inner event must have come up in all modes
+/// together.
 const LEAST: u64 = 1000;
 
 /// Calls of mode random in a quick run.
@@ -60,7 +61,7 @@ fn run_damaged(options: &Options, counters: &mut Counters) -> bool {
         .unwrap_or(if options.quick { 60_000 } else { 300_000 });
     report(match options.case {
         Some(case) => damaged::run_case(options.seed, case, options.mutant, counters),
-        None => sweep::run(options.mutant, counters)
+        None => sweep::run(options.step, options.mutant, counters)
             .or_else(|| damaged::run(options.seed, calls, options.mutant, counters)),
     })
 }
@@ -202,15 +203,19 @@ fn run(options: &Options) -> bool {
     }
     let word = if good { "all agree" } else { "NOT all agree" };
     println!(
-        "compare: {word}, {} calls compared, seed {}",
-        total.calls, options.seed
+        "compare: {word}, {} calls compared, and {} of the inner event, seed {}",
+        total.calls,
+        total.inner + total.settled,
+        options.seed
     );
     good
 }
 
 fn enough(total: &Counters) -> bool {
     match total.reached(LEAST) {
-        Ok(()) => println!("each refusal and each kind of event came up at least {LEAST} times"),
+        Ok(()) => println!(
+            "each refusal, each kind of event and the inner event came up at least {LEAST} times"
+        ),
         Err(ref says) => println!("TOO FEW: {says}, {LEAST} are asked for"),
     }
     total.reached(LEAST).is_ok()

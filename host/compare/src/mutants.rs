@@ -34,7 +34,7 @@ pub fn hunt(mutant: Mutant, seed: u64, calls: u64) -> Hunt {
         sweep: None,
     };
     if !hunt.found() {
-        hunt.sweep = sweep::run(mutant, &mut Counters::default());
+        hunt.sweep = sweep::run(1, mutant, &mut Counters::default());
     }
     hunt
 }
@@ -43,7 +43,7 @@ pub fn hunt(mutant: Mutant, seed: u64, calls: u64) -> Hunt {
 pub fn survives(mutant: Mutant, seed: u64, calls: u64) -> bool {
     damaged::run(seed, calls, mutant, &mut Counters::default()).is_none()
         && random::run(seed, calls, mutant, &mut Counters::default()).is_none()
-        && sweep::run(mutant, &mut Counters::default()).is_none()
+        && sweep::run(1, mutant, &mut Counters::default()).is_none()
 }
 
 /// All errors.

@@ -6,11 +6,14 @@ pub const HELP: &str = "\
 usage: compare [options] [random|damaged|exhaustive|vectors|mutants|all]
 
 Compares the library with an independent second scheduler. Without a mode: all.
+An event on tables that pass the check is compared once more without the check,
+and if the machine is settled a third time, told so.
 
   --seed S      the seed of random and damaged (1)
   --calls N     calls in each of random and damaged (1000000 and 300000; quick 100000 and 60000),
                 and at most in each search of exhaustive (no limit)
   --quick       the shorter run
+  --step K      of damaged's single numbers and event numbers one in K (1: all); all lengths
   --case K      this case of random or damaged alone
   --mutant M    with the error M in the second scheduler: a difference is expected
   --help        this
@@ -21,6 +24,7 @@ pub struct Options {
     pub seed: u64,
     pub calls: Option<u64>,
     pub quick: bool,
+    pub step: usize,
     pub case: Option<u64>,
     pub mutant: Mutant,
     pub mode: String,
@@ -32,6 +36,7 @@ pub fn parse(mut words: impl Iterator<Item = String>) -> Result<Option<Options>,
         seed: 1,
         calls: None,
         quick: false,
+        step: 1,
         case: None,
         mutant: Mutant::None,
         mode: String::from("all"),
@@ -43,6 +48,7 @@ pub fn parse(mut words: impl Iterator<Item = String>) -> Result<Option<Options>,
             "--quick" => options.quick = true,
             "--seed" => options.seed = number(&value()?)?,
             "--calls" => options.calls = Some(number(&value()?)?),
+            "--step" => options.step = step(&value()?)?,
             "--case" => options.case = Some(number(&value()?)?),
             "--mutant" => options.mutant = mutant(&value()?)?,
             "random" | "damaged" | "exhaustive" | "vectors" | "mutants" | "all" => {
@@ -59,6 +65,13 @@ pub fn parse(mut words: impl Iterator<Item = String>) -> Result<Option<Options>,
 
 fn number(word: &str) -> Result<u64, String> {
     word.parse().map_err(|_| format!("{word} is no number"))
+}
+
+fn step(word: &str) -> Result<usize, String> {
+    match word.parse() {
+        Ok(step) if step > 0 => Ok(step),
+        _ => Err(format!("{word} is no step")),
+    }
 }
 
 fn mutant(name: &str) -> Result<Mutant, String> {

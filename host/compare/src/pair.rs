@@ -1,10 +1,12 @@
-//! The same tables twice, one for our library and one for the reference, and calls made on both.
+//! The same tables twice, one for our library and one for the reference, and calls made on both. An event on tables that
+//! pass the check is also made by our library without the check.
 
-use crate::call::{Answer, Call};
+use crate::call::{Agreed, Answer, Call, Inner};
 use crate::demand3;
 use crate::difference::Difference;
 use crate::tables::{first_difference, for_reference};
-use binding::{Event, Tables};
+use binding::{Event, Outcome, Tables};
+use inner::{Checked, Settled};
 use reference::Mutant;
 
 #[derive(Clone)]
@@ -24,30 +26,57 @@ impl Pair {
         }
     }
 
-    /// Makes the call on both and compares all that was answered and all tables, byte by byte.
-    ///
+    /// Makes the call on both and compares all that was answered and all tables, byte by byte. An event is made once more
+    /// without its check.
+    pub fn call(&mut self, call: Call) -> Result<Agreed, Difference> {
+        let Call::Event(e) = call else {
+            let (answer, inner) = (self.call_both(call)?, Inner::No);
+            return Ok(Agreed { answer, inner });
+        };
+        let before = self.ours.clone();
+        let answer = self.call_both(call)?;
+        if answer.number == 0 {
+            self.accepted(&demand3::Before::of(&before), e, answer)?;
+        }
+        let inner = self.call_inner(before, e, answer)?;
+        Ok(Agreed { answer, inner })
+    }
+
     /// Both had the same tables before, and the reference writes nothing when it refuses: so a refusal that
     /// writes is found here too.
-    pub fn call(&mut self, call: Call) -> Result<Answer, Difference> {
-        let before = demand3::Before::of(&self.ours);
+    fn call_both(&mut self, call: Call) -> Result<Answer, Difference> {
         let ours = self.call_ours(call);
         let theirs = self.call_theirs(call);
-        if ours != theirs {
-            return Err(Difference::Answer(ours, theirs));
-        }
-        if let Some((table, index, ours, theirs)) = first_difference(&self.ours, &self.theirs) {
-            return Err(Difference::Table {
-                table,
-                index,
-                ours,
-                theirs,
-            });
-        }
-        match call {
-            Call::Event(e) if ours.number == 0 => self.accepted(&before, e, ours)?,
-            _ => (),
-        }
+        same(ours, &self.ours, theirs, &self.theirs)?;
         Ok(ours)
+    }
+
+    /// The event on the tables before it, without their check, if they pass it: the answers 1 and 2 say that they do not.
+    fn call_inner(&self, before: Tables, e: Event, theirs: Answer) -> Result<Inner, Difference> {
+        if matches!(theirs.number, 1 | 2) {
+            return Ok(Inner::No);
+        }
+        let mut any = Checked::new(before.clone());
+        let answer = event_answer(any.event(e));
+        self.inner_same(false, answer, any.tables(), theirs)?;
+        if !reference::settled(&for_reference(&before)) {
+            return Ok(Inner::Unsettled);
+        }
+        let mut settled = Settled::new(before);
+        let answer = event_answer(settled.event(e));
+        self.inner_same(true, answer, settled.tables(), theirs)?;
+        Ok(Inner::Settled)
+    }
+
+    fn inner_same(
+        &self,
+        settled: bool,
+        answer: Answer,
+        tables: &Tables,
+        theirs: Answer,
+    ) -> Result<(), Difference> {
+        same(answer, tables, theirs, &self.theirs)
+            .map_err(|difference| Difference::Inner(settled, Box::new(difference)))
     }
 
     fn accepted(&self, before: &demand3::Before, e: Event, ours: Answer) -> Result<(), Difference> {
@@ -62,13 +91,7 @@ impl Pair {
         match call {
             Call::MakeFresh => Answer::plain(self.ours.make_fresh()),
             Call::Check => Answer::plain(self.ours.check()),
-            Call::Event(e) => {
-                let outcome = self.ours.event(e);
-                Answer {
-                    moves: outcome.moves,
-                    ..Answer::plain(outcome.answer)
-                }
-            }
+            Call::Event(e) => event_answer(self.ours.event(e)),
             Call::Find(level, mask) => {
                 let found = self.ours.find(level, mask);
                 Answer {
@@ -101,6 +124,34 @@ impl Pair {
                 }
             }
         }
+    }
+}
+
+fn event_answer(outcome: Outcome) -> Answer {
+    Answer {
+        moves: outcome.moves,
+        ..Answer::plain(outcome.answer)
+    }
+}
+
+/// The same answer, and the same in every table.
+fn same(
+    answer: Answer,
+    ours: &Tables,
+    their_answer: Answer,
+    theirs: &reference::Tables,
+) -> Result<(), Difference> {
+    if answer != their_answer {
+        return Err(Difference::Answer(answer, their_answer));
+    }
+    match first_difference(ours, theirs) {
+        None => Ok(()),
+        Some((table, index, ours, theirs)) => Err(Difference::Table {
+            table,
+            index,
+            ours,
+            theirs,
+        }),
     }
 }
 

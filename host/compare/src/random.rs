@@ -70,7 +70,7 @@ pub fn run_case(
         let call = first.take().unwrap_or_else(random);
         case.calls.push(call);
         match pair.call(call) {
-            Ok(answer) => counters.count(call, answer),
+            Ok(agreed) => counters.count(call, agreed),
             Err(difference) => return Some(origin.failure(case, counters, difference)),
         }
     }

@@ -11,14 +11,14 @@ use crate::generate::Style;
 use crate::plan::{Plan, TaskPlan};
 use crate::rng::Rng;
 use crate::tables::{get, len, COUNT};
-use binding::Event;
+use binding::{Event, Tables};
 use reference::Mutant;
 
-/// All of it.
-pub fn run(mutant: Mutant, counters: &mut Counters) -> Option<Failure> {
+/// All lengths, and of the changed numbers and of the events one in `step`.
+pub fn run(step: usize, mutant: Mutant, counters: &mut Counters) -> Option<Failure> {
     every_length(mutant, counters)
-        .or_else(|| every_place(mutant, counters))
-        .or_else(|| every_number(mutant, counters))
+        .or_else(|| every_place(step, mutant, counters))
+        .or_else(|| every_number(step, mutant, counters))
 }
 
 /// Three CPUs: one with waiting equals, one with ordinary work below its task, one empty with ordinary work; and
@@ -118,33 +118,35 @@ fn others(table: usize, old: u64) -> Vec<u64> {
 }
 
 /// Each number of each table changed to others.
-fn every_place(mutant: Mutant, counters: &mut Counters) -> Option<Failure> {
+fn changes(good: &Tables) -> impl Iterator<Item = Damage> + '_ {
+    let places =
+        (0..COUNT).flat_map(|table| (0..len(good, table)).map(move |index| (table, index)));
+    places.flat_map(|(table, index)| {
+        let values = others(table, get(good, table, index));
+        values.into_iter().map(move |value| Damage::Set {
+            table,
+            index,
+            value,
+        })
+    })
+}
+
+fn every_place(step: usize, mutant: Mutant, counters: &mut Counters) -> Option<Failure> {
     let good = machine().tables();
     let calls = vec![
         Call::Check,
         Call::Find(101, 7),
         Call::Event(event(7, 0, 0, 0, 0)),
     ];
-    for table in 0..COUNT {
-        for index in 0..len(&good, table) {
-            let old = get(&good, table, index);
-            for value in others(table, old) {
-                let case = Case {
-                    plan: machine(),
-                    damage: vec![Damage::Set {
-                        table,
-                        index,
-                        value,
-                    }],
-                    calls: calls.clone(),
-                };
-                if let Some(failure) = case.run_counted(origin(None, mutant), counters) {
-                    return Some(failure);
-                }
-            }
-        }
-    }
-    None
+    let mut chosen = changes(&good).step_by(step);
+    chosen.find_map(|damage| {
+        let case = Case {
+            plan: machine(),
+            damage: vec![damage],
+            calls: calls.clone(),
+        };
+        case.run_counted(origin(None, mutant), counters)
+    })
 }
 
 fn event(kind: u32, who: u32, a: u32, b: u32, mask: u64) -> Event {
@@ -158,13 +160,14 @@ fn event(kind: u32, who: u32, a: u32, b: u32, mask: u64) -> Event {
 }
 
 /// Each kind with each number about a limit: where several refusals apply, the order decides.
-fn every_number(mutant: Mutant, counters: &mut Counters) -> Option<Failure> {
+fn every_number(step: usize, mutant: Mutant, counters: &mut Counters) -> Option<Failure> {
     const KINDS: [u32; 13] = [0, 1, 2, 3, 4, 5, 6, 7, 8, 9, 10, 257, u32::MAX];
     const WHOS: [u32; 11] = [0, 1, 2, 3, 4, 5, 511, 512, 513, 65536, u32::MAX];
     const POLICIES: [u32; 6] = [0, 1, 2, 3, 257, u32::MAX];
     const VALUES: [u32; 8] = [0, 1, 2, 50, 99, 100, 256 + 50, u32::MAX];
     const MASKS: [u64; 7] = [0, 1, 6, 7, 8, 1 << 63, u64::MAX];
-    for code in 0..KINDS.len() * WHOS.len() * POLICIES.len() * VALUES.len() * MASKS.len() {
+    let all = KINDS.len() * WHOS.len() * POLICIES.len() * VALUES.len() * MASKS.len();
+    for code in (0..all).step_by(step) {
         let mut rest = code;
         let mut choose = |among: usize| {
             let chosen = rest % among;

@@ -27,6 +27,8 @@ fn random_machines() {
     none(random::run(2, 10_000, Mutant::None, &mut counters));
     assert_eq!(counters.most_moves(), 63);
     assert!((1..=9).all(|kind| counters.accepted[kind] > 0));
+    assert!(counters.settled > 1000 && counters.inner > counters.settled);
+    assert!(counters.settled_moves[1] > 0 && counters.settled_moves[63] > 0);
 }
 
 #[test]
@@ -39,7 +41,7 @@ fn damaged_tables() {
 #[test]
 fn every_length_place_and_number() {
     let mut counters = Counters::default();
-    none(sweep::run(Mutant::None, &mut counters));
+    none(sweep::run(1, Mutant::None, &mut counters));
     // All refusals but the finder's, whose questions are those of `finder_questions`.
     for (entry, number) in REFUSALS.into_iter().filter(|&(entry, _)| entry < 3) {
         assert!(counters.answers[entry][number] > 0);

@@ -29,7 +29,7 @@ fn row_fits(t: &Tables, record: &Record, cpu: usize, placed: &mut Placed) -> boo
     if count > TASKS || t.flags[cpu] > 1 {
         return false;
     }
-    let (tasks, unused) = t.row(cpu).split_at(count);
+    let (tasks, unused) = t.rows[cpu].split_at(count);
     if !tasks_fit(t, cpu, tasks, placed) || !empty(unused) {
         return false;
     }

@@ -1,32 +1,12 @@
-//! The nine kinds of event: the checks of each, and its own effect.
+//! The nine kinds of event: the checks of each, and its own effect on well-formed tables. Each gives who may be movable
+//! then, if nobody was before; or the number of the refusal, and nothing is changed.
 
 use crate::event::Event;
 use crate::find::mask_fits;
 use crate::record::{level_of, Record};
 use crate::row;
-use crate::tables::{Tables, ASLEEP, FREE, FULL_SLICE, RR, RUNNABLE, TASKS};
-
-/// The event's own effect on well-formed tables, or the number of the refusal, and nothing is changed.
-pub fn apply(t: &mut Tables, record: &mut Record, e: &Event) -> Result<(), u8> {
-    let who = e.who as usize;
-    match e.kind {
-        1..=6 if who >= TASKS => Err(4),
-        7..=9 if who >= t.n => Err(4),
-        1 => add(t, who, e),
-        2 => remove(t, who),
-        3 => wake(t, record, who),
-        4 => sleep(t, record, who),
-        5 => set_priority(t, record, who, e.b),
-        6 => set_affinity(t, record, who, e.mask),
-        7 => {
-            tick(t, who);
-            Ok(())
-        }
-        8 => yield_cpu(t, who),
-        9 => set_ordinary(t, record, who, e.b),
-        _ => Err(3),
-    }
-}
+use crate::settle::{Few, NOWHERE};
+use crate::tables::{Lent, ASLEEP, FREE, FULL_SLICE, NOTHING, RR, RUNNABLE, TASKS};
 
 /// The refusal, unless what is asked for holds.
 fn need(holds: bool, refusal: u8) -> Result<(), u8> {
@@ -41,7 +21,22 @@ fn is_priority(b: u32) -> bool {
     (1..=99).contains(&b)
 }
 
-fn add(t: &mut Tables, who: usize, e: &Event) -> Result<(), u8> {
+/// The task that the event names.
+fn task(e: &Event) -> Result<usize, u8> {
+    let who = e.who as usize;
+    need(who < TASKS, 4)?;
+    Ok(who)
+}
+
+/// The CPU that the event names, and who runs there, 65535 if nobody.
+fn cpu(t: &Lent, e: &Event) -> Result<(usize, u16), u8> {
+    let who = e.who as usize;
+    let row = t.rows.get(who).ok_or(4)?;
+    Ok((who, row[0]))
+}
+
+pub fn add(t: &mut Lent, _: &mut Record, e: &Event) -> Result<Few, u8> {
+    let who = task(e)?;
     need(t.state[who] == FREE, 5)?;
     need(matches!(e.a, 1 | 2), 6)?;
     need(is_priority(e.b), 7)?;
@@ -52,10 +47,11 @@ fn add(t: &mut Tables, who: usize, e: &Event) -> Result<(), u8> {
     t.cpu[who] = e.mask.trailing_zeros() as u8;
     t.slice[who] = FULL_SLICE;
     t.mask[who] = e.mask;
-    Ok(())
+    Ok(Few::NONE)
 }
 
-fn remove(t: &mut Tables, who: usize) -> Result<(), u8> {
+pub fn remove(t: &mut Lent, _: &mut Record, e: &Event) -> Result<Few, u8> {
+    let who = task(e)?;
     need(t.state[who] == ASLEEP, 5)?;
     t.state[who] = FREE;
     t.policy[who] = 0;
@@ -63,10 +59,11 @@ fn remove(t: &mut Tables, who: usize) -> Result<(), u8> {
     t.cpu[who] = 0;
     t.slice[who] = 0;
     t.mask[who] = 0;
-    Ok(())
+    Ok(Few::NONE)
 }
 
-fn wake(t: &mut Tables, record: &mut Record, who: usize) -> Result<(), u8> {
+pub fn wake(t: &mut Lent, record: &mut Record, e: &Event) -> Result<Few, u8> {
+    let who = task(e)?;
     need(t.state[who] == ASLEEP, 5)?;
     t.state[who] = RUNNABLE;
     let (cpu, mask) = (t.cpu[who], t.mask[who]);
@@ -76,107 +73,157 @@ fn wake(t: &mut Tables, record: &mut Record, who: usize) -> Result<(), u8> {
     } else {
         mask.trailing_zeros() as usize
     };
-    enter(t, record, target, who);
-    Ok(())
+    Ok(Few {
+        fallen: NOWHERE,
+        new: enter(t, record, target, who),
+    })
 }
 
-fn sleep(t: &mut Tables, record: &mut Record, who: usize) -> Result<(), u8> {
+pub fn sleep(t: &mut Lent, record: &mut Record, e: &Event) -> Result<Few, u8> {
+    let who = task(e)?;
     need(t.state[who] == RUNNABLE, 5)?;
-    leave(t, record, who);
     t.state[who] = ASLEEP;
-    Ok(())
+    Ok(Few {
+        fallen: leave(t, record, who),
+        new: NOTHING,
+    })
 }
 
-fn set_priority(t: &mut Tables, record: &mut Record, who: usize, b: u32) -> Result<(), u8> {
+pub fn set_priority(t: &mut Lent, record: &mut Record, e: &Event) -> Result<Few, u8> {
+    let who = task(e)?;
     need(t.state[who] != FREE, 5)?;
-    need(is_priority(b), 7)?;
-    let changed = t.prio[who] != b as u8;
+    need(is_priority(e.b), 7)?;
+    let changed = t.prio[who] != e.b as u8;
+    t.prio[who] = e.b as u8;
     if t.state[who] == RUNNABLE && changed {
-        leave(t, record, who);
-        t.prio[who] = b as u8;
-        enter(t, record, t.cpu[who] as usize, who);
+        Ok(move_in_row(t, record, who))
     } else {
-        t.prio[who] = b as u8;
+        Ok(Few::NONE)
     }
-    Ok(())
 }
 
-fn set_affinity(t: &mut Tables, record: &mut Record, who: usize, mask: u64) -> Result<(), u8> {
+pub fn set_affinity(t: &mut Lent, record: &mut Record, e: &Event) -> Result<Few, u8> {
+    let who = task(e)?;
     need(t.state[who] != FREE, 5)?;
-    need(mask_fits(t.n, mask), 8)?;
-    t.mask[who] = mask;
-    if t.state[who] == RUNNABLE && mask >> t.cpu[who] & 1 == 0 {
-        leave(t, record, who);
-        enter(t, record, mask.trailing_zeros() as usize, who);
+    need(mask_fits(t.n, e.mask), 8)?;
+    t.mask[who] = e.mask;
+    if t.state[who] != RUNNABLE {
+        return Ok(Few::NONE);
     }
-    Ok(())
+    let cpu = t.cpu[who] as usize;
+    if e.mask >> cpu & 1 == 0 {
+        return Ok(Few {
+            fallen: leave(t, record, who),
+            new: enter(t, record, e.mask.trailing_zeros() as usize, who),
+        });
+    }
+    let runs = t.rows[cpu][0] == who as u16;
+    Ok(Few {
+        fallen: NOWHERE,
+        new: if runs { NOTHING } else { who as u16 },
+    })
 }
 
-fn tick(t: &mut Tables, cpu: usize) {
-    if t.counts[cpu] == 0 {
-        return;
-    }
-    let first = t.rows[TASKS * cpu] as usize;
-    if t.policy[first] != RR {
-        return;
+pub fn tick(t: &mut Lent, _: &mut Record, e: &Event) -> Result<Few, u8> {
+    let (cpu, first) = cpu(t, e)?;
+    let first = first as usize;
+    if t.policy.get(first) != Some(&RR) {
+        return Ok(Few::NONE);
     }
     t.slice[first] -= 1;
-    if t.slice[first] == 0 {
-        t.slice[first] = FULL_SLICE;
-        requeue(t, cpu);
+    if t.slice[first] > 0 {
+        return Ok(Few::NONE);
     }
+    t.slice[first] = FULL_SLICE;
+    Ok(requeue(t, cpu))
 }
 
-fn yield_cpu(t: &mut Tables, cpu: usize) -> Result<(), u8> {
-    need(t.counts[cpu] != 0, 9)?;
-    requeue(t, cpu);
-    Ok(())
+pub fn yield_cpu(t: &mut Lent, _: &mut Record, e: &Event) -> Result<Few, u8> {
+    let (cpu, first) = cpu(t, e)?;
+    need(first != NOTHING, 9)?;
+    Ok(requeue(t, cpu))
 }
 
-fn set_ordinary(t: &mut Tables, record: &mut Record, cpu: usize, b: u32) -> Result<(), u8> {
-    need(b <= 1, 7)?;
-    t.flags[cpu] = b as u8;
-    if t.counts[cpu] == 0 {
-        record.set_level(cpu, b as u8);
+pub fn set_ordinary(t: &mut Lent, record: &mut Record, e: &Event) -> Result<Few, u8> {
+    let (cpu, first) = cpu(t, e)?;
+    need(e.b <= 1, 7)?;
+    t.flags[cpu] = e.b as u8;
+    if first == NOTHING && record.levels[cpu] != e.b as u8 {
+        record.set_level(cpu, e.b as u8);
     }
-    Ok(())
+    Ok(Few::NONE)
 }
 
 /// The first task goes behind its equals. The level stays.
-fn requeue(t: &mut Tables, cpu: usize) {
-    let task = t.rows[TASKS * cpu];
-    dequeue(t, cpu, task as usize);
-    enqueue(t, cpu, task as usize);
+#[inline(never)]
+fn requeue(t: &mut Lent, cpu: usize) -> Few {
+    let row = &mut t.rows[cpu];
+    let task = row[0];
+    let to = row::again(row, t.prio, t.counts[cpu] as usize, 0);
+    Few {
+        fallen: NOWHERE,
+        new: if to > 0 { task } else { NOTHING },
+    }
 }
 
-/// The task leaves the row of its CPU, whose level follows.
-fn leave(t: &mut Tables, record: &mut Record, task: usize) {
+/// The task, whose priority has changed, leaves its row and enters it again, and the level follows.
+fn move_in_row(t: &mut Lent, record: &mut Record, task: usize) -> Few {
     let cpu = t.cpu[task] as usize;
-    dequeue(t, cpu, task);
-    let level = match t.counts[cpu] {
-        0 => t.flags[cpu],
-        _ => level_of(t.prio[t.rows[TASKS * cpu] as usize]),
+    let row = &mut t.rows[cpu];
+    let from = row::position(row, task as u16);
+    let to = row::again(row, t.prio, t.counts[cpu] as usize, from);
+    let new = match (from, to) {
+        (_, 1..) => task as u16,
+        (0, 0) => NOTHING,
+        _ => row[1],
     };
-    record.set_level(cpu, level);
+    if from > 0 && to > 0 {
+        return Few {
+            fallen: NOWHERE,
+            new,
+        };
+    }
+    let before = record.levels[cpu];
+    let level = level_of(t.prio[row[0] as usize]);
+    if level != before {
+        record.set_level(cpu, level);
+    }
+    Few {
+        fallen: if level < before { cpu as u8 } else { NOWHERE },
+        new,
+    }
 }
 
-/// The task enters the row of a CPU, which is then its CPU, and the level follows.
-pub fn enter(t: &mut Tables, record: &mut Record, cpu: usize, task: usize) {
-    enqueue(t, cpu, task);
-    t.cpu[task] = cpu as u8;
-    let first = t.rows[TASKS * cpu] as usize;
-    record.set_level(cpu, level_of(t.prio[first]));
-}
-
-pub fn dequeue(t: &mut Tables, cpu: usize, task: usize) {
-    let count = t.counts[cpu] as usize;
-    row::remove(t.row_mut(cpu), count, task as u16);
+/// The task leaves the row of its CPU, whose level follows. The CPU, if its level fell.
+fn leave(t: &mut Lent, record: &mut Record, task: usize) -> u8 {
+    let cpu = t.cpu[task] as usize;
+    let row = &mut t.rows[cpu];
+    let at = row::remove(row, t.counts[cpu] as usize, task as u16);
     t.counts[cpu] -= 1;
+    if at > 0 {
+        return NOWHERE;
+    }
+    let level = match t.prio.get(row[0] as usize) {
+        Some(&prio) => level_of(prio),
+        None => t.flags[cpu],
+    };
+    if level == record.levels[cpu] {
+        return NOWHERE;
+    }
+    record.set_level(cpu, level);
+    cpu as u8
 }
 
-fn enqueue(t: &mut Tables, cpu: usize, task: usize) {
-    let count = t.counts[cpu] as usize;
-    let row = &mut t.rows[TASKS * cpu..][..TASKS];
-    row::insert(row, &t.prio, count, task as u16);
+/// The task enters the row of a CPU, which is then its CPU, and the level follows. Who waits now and did not before:
+/// the task, or whom it displaced.
+fn enter(t: &mut Lent, record: &mut Record, cpu: usize, task: usize) -> u16 {
+    let row = &mut t.rows[cpu];
+    let at = row::insert(row, t.prio, t.counts[cpu] as usize, task as u16);
     t.counts[cpu] += 1;
+    t.cpu[task] = cpu as u8;
+    if at > 0 {
+        return task as u16;
+    }
+    record.set_level(cpu, level_of(t.prio[task]));
+    row[1]
 }

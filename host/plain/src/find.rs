@@ -29,7 +29,7 @@ pub fn find(n: usize, record: &Record, level: u32, mask: u64) -> Found {
     if !mask_fits(n, mask) {
         return refused(8);
     }
-    match lowest(&record.masks, level as usize, mask) {
+    match lowest(record, level as usize, mask) {
         Some((level, mask)) => Found {
             answer: 0,
             level: level as u8,
@@ -39,13 +39,28 @@ pub fn find(n: usize, record: &Record, level: u32, mask: u64) -> Found {
     }
 }
 
-/// The search itself.
-pub fn lowest(masks: &[u64; LEVELS], below: usize, mask: u64) -> Option<(usize, u64)> {
-    masks[..below]
-        .iter()
-        .map(|cpus| cpus & mask)
-        .enumerate()
-        .find(|&(_, cpus)| cpus != 0)
+/// The search itself: from one level that has a CPU to the next.
+pub fn lowest(record: &Record, below: usize, mask: u64) -> Option<(usize, u64)> {
+    let low = among(record, 0, below.min(64), mask);
+    match below {
+        0..=64 => low,
+        _ => low.or_else(|| among(record, 1, below - 64, mask)),
+    }
+}
+
+/// The same among the first so many levels of one word.
+fn among(record: &Record, word: usize, below: usize, mask: u64) -> Option<(usize, u64)> {
+    let beyond = u64::MAX.checked_shl(below as u32).unwrap_or(0);
+    let mut active = record.words[word] & !beyond;
+    while active != 0 {
+        let level = 64 * word + active.trailing_zeros() as usize;
+        let cpus = record.masks[level] & mask;
+        if cpus != 0 {
+            return Some((level, cpus));
+        }
+        active &= active - 1;
+    }
+    None
 }
 
 /// A mask of n CPUs: not 0, and no bit at n or above.

@@ -33,12 +33,10 @@ impl Record {
         record
     }
 
-    /// Moves a CPU to another level. Mostly it is there already.
+    /// Moves a CPU to another level.
     pub fn set_level(&mut self, cpu: usize, level: u8) {
-        if self.levels[cpu] != level {
-            self.leave(cpu);
-            self.enter(cpu, level);
-        }
+        self.leave(cpu);
+        self.enter(cpu, level);
     }
 
     fn leave(&mut self, cpu: usize) {

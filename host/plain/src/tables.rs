@@ -14,6 +14,10 @@ pub const RUNNABLE: u8 = 2;
 pub const RR: u8 = 2;
 pub const FULL_SLICE: u16 = 100;
 
+/// The places of one CPU: who runs, who waits, and 65535 in the rest.
+pub type Row = [u16; TASKS];
+
+/// Tables of any length.
 #[derive(Clone, Debug, PartialEq, Eq)]
 pub struct Tables {
     pub n: usize,
@@ -23,10 +27,25 @@ pub struct Tables {
     pub cpu: Vec<u8>,
     pub slice: Vec<u16>,
     pub mask: Vec<u64>,
-    pub rows: Vec<u16>,
+    pub rows: Vec<Row>,
     pub counts: Vec<u16>,
     pub flags: Vec<u8>,
     pub log: Vec<u16>,
+}
+
+/// The same tables, lent with the lengths that n CPUs ask for: there are n rows, counts and flags.
+pub struct Lent<'a> {
+    pub n: usize,
+    pub state: &'a mut [u8; TASKS],
+    pub policy: &'a mut [u8; TASKS],
+    pub prio: &'a mut [u8; TASKS],
+    pub cpu: &'a mut [u8; TASKS],
+    pub slice: &'a mut [u16; TASKS],
+    pub mask: &'a mut [u64; TASKS],
+    pub rows: &'a mut [Row],
+    pub counts: &'a mut [u16],
+    pub flags: &'a mut [u8],
+    pub log: &'a mut [u16; LOG],
 }
 
 impl Tables {
@@ -35,41 +54,45 @@ impl Tables {
         (1..=CPUS).contains(&self.n)
             && [self.state.len(), self.policy.len(), self.prio.len()] == [TASKS; 3]
             && [self.cpu.len(), self.slice.len(), self.mask.len()] == [TASKS; 3]
-            && self.rows.len() == TASKS * self.n
-            && self.counts.len() == self.n
-            && self.flags.len() == self.n
+            && [self.rows.len(), self.counts.len(), self.flags.len()] == [self.n; 3]
             && self.log.len() == LOG
+    }
+
+    /// Lends the tables, if their lengths fit.
+    pub fn lend(&mut self) -> Option<Lent<'_>> {
+        if !self.lengths_fit() {
+            return None;
+        }
+        Some(Lent {
+            n: self.n,
+            state: self.state.as_mut_slice().try_into().ok()?,
+            policy: self.policy.as_mut_slice().try_into().ok()?,
+            prio: self.prio.as_mut_slice().try_into().ok()?,
+            cpu: self.cpu.as_mut_slice().try_into().ok()?,
+            slice: self.slice.as_mut_slice().try_into().ok()?,
+            mask: self.mask.as_mut_slice().try_into().ok()?,
+            rows: &mut self.rows,
+            counts: &mut self.counts,
+            flags: &mut self.flags,
+            log: self.log.as_mut_slice().try_into().ok()?,
+        })
     }
 
     /// A fresh machine, whatever the tables held: 0, or 1 and nothing is changed.
     pub fn make_fresh(&mut self, record: &mut Record) -> u8 {
-        if !self.lengths_fit() {
+        let Some(t) = self.lend() else {
             return 1;
-        }
-        for column in [
-            &mut self.state,
-            &mut self.policy,
-            &mut self.prio,
-            &mut self.cpu,
-        ] {
+        };
+        for column in [t.state, t.policy, t.prio, t.cpu] {
             column.fill(0);
         }
-        self.slice.fill(0);
-        self.mask.fill(0);
-        self.rows.fill(NOTHING);
-        self.counts.fill(0);
-        self.flags.fill(0);
-        self.log.fill(NOTHING);
-        *record = Record::fresh(self.n);
+        t.slice.fill(0);
+        t.mask.fill(0);
+        t.rows.fill([NOTHING; TASKS]);
+        t.counts.fill(0);
+        t.flags.fill(0);
+        t.log.fill(NOTHING);
+        *record = Record::fresh(t.n);
         0
-    }
-
-    /// The 512 places of a CPU's row.
-    pub fn row(&self, cpu: usize) -> &[u16] {
-        &self.rows[TASKS * cpu..][..TASKS]
-    }
-
-    pub fn row_mut(&mut self, cpu: usize) -> &mut [u16] {
-        &mut self.rows[TASKS * cpu..][..TASKS]
     }
 }

@@ -1,8 +1,9 @@
 //! The plain version answers as the library does and leaves the same in every table: random calls on well-formed
-//! and on damaged tables.
+//! and on damaged tables, and events from fresh machines on, which are told that the machine is settled.
 
 mod side;
 
+use binding::Event;
 use compare::call::Call;
 use compare::damage::{wrong_number, wrong_size};
 use compare::events;
@@ -59,5 +60,87 @@ fn damaged() {
         if calls > 60_000 {
             break;
         }
+    }
+}
+
+/// A fresh machine is settled, and every event leaves it so.
+#[test]
+fn settled_from_fresh() {
+    let mut seen = Seen::default();
+    for case in 0..128 {
+        let mut rng = Rng::for_case(13, case);
+        let mut style = Style::random(&mut rng);
+        style.n = 1 + case as usize % 64;
+        let (_, pool) = machine(&mut rng, &style);
+        let fresh = binding::Tables::fresh(style.n).expect("1 to 64 CPUs");
+        live(&mut rng, &style, &pool, Pair::new(fresh), &mut seen, 1000);
+    }
+    assert!(seen.moved[3..=6].iter().all(|&times| times > 100));
+}
+
+/// So is a machine that has accepted an event: here with short slices and long chains of moves.
+#[test]
+fn settled_by_an_event() {
+    let mut seen = Seen::default();
+    for case in 0..1280 {
+        let mut rng = Rng::for_case(14, case);
+        let mut style = Style::random(&mut rng);
+        style.n = 1 + case as usize % 64;
+        let (plan, pool) = match case {
+            0..64 => chain(&mut rng, &style, true),
+            _ => machine(&mut rng, &style),
+        };
+        let mut pair = Pair::new(plan.tables());
+        pair.call(Call::Event(event(9, 0)));
+        if case < 64 {
+            seen.count(3, pair.settled_event(event(3, 511)));
+        }
+        live(&mut rng, &style, &pool, pair, &mut seen, 150);
+    }
+    assert!(seen.moved[3..=8].iter().all(|&times| times > 10));
+    assert_eq!(seen.most, 63);
+}
+
+/// Events of each kind that moved tasks, and the most moves.
+#[derive(Default)]
+struct Seen {
+    moved: [usize; 10],
+    most: u32,
+}
+
+impl Seen {
+    fn count(&mut self, kind: u32, outcome: plain::Outcome) {
+        if outcome.moves > 0 {
+            self.moved[kind as usize] += 1;
+            self.most = self.most.max(outcome.moves);
+        }
+    }
+}
+
+fn event(kind: u32, who: u32) -> Event {
+    Event {
+        kind,
+        who,
+        a: 0,
+        b: 0,
+        mask: 0,
+    }
+}
+
+/// Events on a settled machine.
+fn live(
+    rng: &mut Rng,
+    style: &Style,
+    pool: &[u16],
+    mut pair: Pair,
+    seen: &mut Seen,
+    events: usize,
+) {
+    for _ in 0..events {
+        let e = match rng.percent(3) {
+            true => events::hostile(rng, &pair.ours, style, pool),
+            false => events::plausible(rng, &pair.ours, style, pool),
+        };
+        seen.count(e.kind, pair.settled_event(e));
     }
 }

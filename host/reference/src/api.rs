@@ -2,7 +2,7 @@
 
 use crate::effect::own_effect;
 use crate::machine::Machine;
-use crate::migrate::{settle, Step};
+use crate::migrate::{self, settle, Step};
 use crate::mutant::Mutant;
 use crate::record::Record;
 use crate::refuse::refusal;
@@ -71,6 +71,11 @@ pub fn event(t: &mut Tables, e: Event, m: Mutant) -> Outcome {
     spoil_record(t, before, e, m);
     let moves = steps.len() as u32;
     Outcome { answer, moves }
+}
+
+/// "A machine need not be settled (no task movable) to be well-formed": whether it is. Of well-formed tables.
+pub fn settled(t: &Tables) -> bool {
+    migrate::settled(&Machine::read(t))
 }
 
 /// "Step i, from 0, is entry i of the log: its mover, the CPU it waited on, its destination."

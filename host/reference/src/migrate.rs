@@ -29,6 +29,11 @@ pub(crate) fn settle(machine: &mut Machine, m: Mutant) -> Vec<Step> {
     steps
 }
 
+/// "settled (no task movable)"
+pub(crate) fn settled(machine: &Machine) -> bool {
+    next_step(machine, Mutant::None).is_none()
+}
+
 /// "The mover leaves its row and enters the destination's [...] Slices are kept."
 fn take(machine: &mut Machine, step: Step, m: Mutant) {
     machine.enter(step.task, step.to);

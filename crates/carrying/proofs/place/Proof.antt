@@ -6,7 +6,7 @@ use Rattle.cpupri.specs.Record.{Whole}
 use Rattle.rules.specs.Plan.{left, wrote, carried}
 use Rattle.plans.specs.Decided.{asPlan}
 use Rattle.carrying.proofs.Placing.{leaves, sized, still-sized, whole, enters, follows-origin, follows-target, placed}
-use Rattle.carrying.proofs.Optional.{still-whole-if}
+use Rattle.parts.proofs.Optional.{still-whole-if}
 use Rattle.carrying.proofs.place.Statement.{statement}
 use Rattle.carrying.proofs.place.Tie as tie
 use Rattle.carrying.proofs.place.Proof.Paths as at

@@ -2,6 +2,7 @@
 -- Assumes nothing.
 use borrow.Author.Needs.{needs}
 use mathlib.Core.Path.{sym, _∙_}
+use mathlib.Core.Bool.{false≢true}
 use Rattle.cpupri.specs.Record.{lentRecord}
 use Rattle.lenttables.specs.Lent.{lent, nowTables}
 use Rattle.rules.specs.Events.{Event, event}
@@ -34,7 +35,7 @@ returns c =
     )
 
 handle-requires : tie.Need-handle-requires
-handle-requires c κs = let k = at.handle-requires c in sym (k .check .ensures) ∙ k .if1 .left
+handle-requires c κs = let k = at.handle-requires c in (sym (k .check .ensures) ∙ k .if1 .left, λ e. absurd (false≢true e))
 
 returns-2 : tie.Need-returns-2
 returns-2 c =
@@ -47,7 +48,7 @@ returns-2 c =
       h .ensures .0,
       (
         result-demand (k .args .n) (k .args .«record») (tables s) (asked s) (h .result .answer) (h .result .moves) r t (h .ensures .0),
-        λ z. h .ensures .1,
+        λ z. h .ensures .1 .0,
       ),
     )
 

@@ -1,38 +1,53 @@
 //! The library and the plain version side by side.
 
 use compare::call::Call;
-use plain::{Event, Record, Tables};
+use plain::{Event, Outcome, Record, Tables};
 
-/// Both on equal tables. The plain side has no record if the four tables of one have other lengths.
+/// Both on equal tables. The plain side has no tables if rows of 512 places cannot be made of them, and no record if
+/// the four tables of one have other lengths.
 pub struct Pair {
     pub ours: binding::Tables,
-    plain: Tables,
+    tables: Option<Tables>,
     record: Option<Record>,
 }
 
 impl Pair {
     pub fn new(ours: binding::Tables) -> Pair {
-        let plain = tables(&ours);
+        let tables = tables(&ours);
         let record = record(&ours);
         Pair {
             ours,
-            plain,
+            tables,
             record,
         }
     }
 
     /// Makes the call on both sides, and answers how many moves there were.
     pub fn call(&mut self, call: Call) -> usize {
+        let before = self.ours.clone();
         let inner = self.inner(call);
         let (ours, moves) = self.ours(call);
         let plain = self.plain(call);
         assert_eq!(ours, plain, "{call:?}");
-        assert!(self.same(), "{call:?} leaves other tables");
+        assert!(self.same(&before), "{call:?} leaves other tables");
         if let Some((answer, tables, record)) = inner {
-            assert_eq!((answer, &tables), (ours, &self.plain), "by value: {call:?}");
+            assert_eq!(answer, ours, "unchecked: {call:?}");
+            assert!(Some(tables) == self.tables, "unchecked: {call:?}");
             assert_eq!(Some(record), self.record);
         }
         moves as usize
+    }
+
+    /// The same for an event on a settled machine: the plain side is told so, and checks the event alone.
+    pub fn settled_event(&mut self, e: binding::Event) -> Outcome {
+        let before = self.ours.clone();
+        let ours = self.ours.event(e);
+        let right = "tables that pass the check";
+        let (t, record) = (self.tables.as_mut(), self.record.as_mut());
+        let outcome = handle(t.expect(right), record.expect(right), e, true);
+        assert_eq!((outcome.answer, outcome.moves), (ours.answer, ours.moves));
+        assert!(self.same(&before), "{e:?} leaves other tables");
+        outcome
     }
 
     fn ours(&mut self, call: Call) -> (Vec<u64>, u32) {
@@ -51,53 +66,48 @@ impl Pair {
     }
 
     fn plain(&mut self, call: Call) -> Vec<u64> {
-        let t = &mut self.plain;
-        let Some(record) = &mut self.record else {
-            return match call {
-                Call::MakeFresh | Call::Check => vec![1],
-                Call::Event(_) => vec![1, 0],
-                Call::Find(..) => vec![1, 255, 0],
-            };
-        };
-        match call {
-            Call::MakeFresh => vec![t.make_fresh(record).into()],
-            Call::Check => vec![plain::check(t, record).into()],
-            Call::Event(e) => {
+        match (call, &mut self.tables, &mut self.record) {
+            (Call::MakeFresh, Some(t), Some(record)) => vec![t.make_fresh(record).into()],
+            (Call::Check, Some(t), Some(record)) => vec![plain::check(t, record).into()],
+            (Call::Event(e), Some(t), Some(record)) => {
                 let o = plain::event(t, record, &event(e));
                 vec![o.answer.into(), o.moves.into()]
             }
-            Call::Find(level, mask) => {
-                let f = plain::find(t.n, record, level, mask);
+            (Call::Find(level, mask), _, Some(record)) => {
+                let f = plain::find(self.ours.n, record, level, mask);
                 vec![f.answer.into(), f.level.into(), f.mask]
             }
+            (Call::MakeFresh | Call::Check, ..) => vec![1],
+            (Call::Event(_), ..) => vec![1, 0],
+            (Call::Find(..), ..) => vec![1, 255, 0],
         }
     }
 
     /// An event on well-formed tables without their check, on copies.
     fn inner(&self, call: Call) -> Option<(Vec<u64>, Tables, Record)> {
-        let (Call::Event(e), Some(record)) = (call, &self.record) else {
+        let (Call::Event(e), Some(t), Some(record)) = (call, &self.tables, &self.record) else {
             return None;
         };
-        if plain::check(&self.plain, record) != 0 {
+        if plain::check(t, record) != 0 {
             return None;
         }
-        let (mut t, mut record) = (self.plain.clone(), record.clone());
-        let o = plain::handle(&mut t, &mut record, &event(e));
+        let (mut t, mut record) = (t.clone(), record.clone());
+        let o = handle(&mut t, &mut record, e, false);
         Some((vec![o.answer.into(), o.moves.into()], t, record))
     }
 
-    fn same(&self) -> bool {
-        let record = match &self.record {
-            Some(record) => {
-                record.masks[..] == self.ours.level_masks[..]
-                    && record.counts[..] == self.ours.level_counts[..]
-                    && record.words[..] == self.ours.level_words[..]
-                    && record.levels[..] == self.ours.levels[..]
-            }
-            None => true,
-        };
-        record && tables(&self.ours) == self.plain
+    /// What the plain side has is as in our tables. If it lacks something, the call was refused and they are as before.
+    fn same(&self, before: &binding::Tables) -> bool {
+        let whole = self.tables.is_some() && self.record.is_some();
+        self.tables == tables(&self.ours)
+            && self.record == record(&self.ours)
+            && (whole || self.ours == *before)
     }
+}
+
+fn handle(t: &mut Tables, record: &mut Record, e: binding::Event, settled: bool) -> Outcome {
+    let mut t = t.lend().expect("right lengths");
+    plain::handle(&mut t, record, &event(e), settled)
 }
 
 fn event(e: binding::Event) -> Event {
@@ -110,8 +120,9 @@ fn event(e: binding::Event) -> Event {
     }
 }
 
-fn tables(t: &binding::Tables) -> Tables {
-    Tables {
+fn tables(t: &binding::Tables) -> Option<Tables> {
+    let rows = t.rows.chunks(binding::TASKS).map(|row| row.try_into().ok());
+    Some(Tables {
         n: t.n,
         state: t.state.clone(),
         policy: t.policy.clone(),
@@ -119,11 +130,11 @@ fn tables(t: &binding::Tables) -> Tables {
         cpu: t.cpu.clone(),
         slice: t.slice.clone(),
         mask: t.mask.clone(),
-        rows: t.rows.clone(),
+        rows: rows.collect::<Option<_>>()?,
         counts: t.counts.clone(),
         flags: t.flags.clone(),
         log: t.log.clone(),
-    }
+    })
 }
 
 fn record(t: &binding::Tables) -> Option<Record> {

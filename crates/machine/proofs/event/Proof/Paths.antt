@@ -22,7 +22,7 @@ abbrev pub else1 : (c : tie.Else1) → let b = after-check (c .before) in record
 else1 c = let b = after-check (c .before) in record { args = b .args; start = b .start; check = b .check; if1 = c .if1 }
 
 abbrev pub after-handle : (c : tie.After-handle) → let b = else1 (c .before .before .before .before .before .before .before .before .before .before .before .before .before .before .before .before .before .before .before) in record { args : typeOf (b .args); start : typeOf (b .start); handle : typeOf (c .handle); handle-last : record { state : List ℕ; policy : List ℕ; prio : List ℕ; cpu : List ℕ; slice : List ℕ; mask : List ℕ; rows : List ℕ; counts : List ℕ; flags : List ℕ; log : List ℕ; masks : List ℕ; tallies : List ℕ; words : List ℕ; levels : List ℕ } }
-after-handle c = let b = else1 (c .before .before .before .before .before .before .before .before .before .before .before .before .before .before .before .before .before .before .before) in record { args = b .args; start = b .start; handle = c .handle; handle-last = record { state = c .handle .last .1 .0; policy = c .handle .last .1 .1 .0; prio = c .handle .last .1 .1 .1 .0; cpu = c .handle .last .1 .1 .1 .1 .0; slice = c .handle .last .1 .1 .1 .1 .1 .0; mask = c .handle .last .1 .1 .1 .1 .1 .1 .0; rows = c .handle .last .1 .1 .1 .1 .1 .1 .1 .0; counts = c .handle .last .1 .1 .1 .1 .1 .1 .1 .1 .0; flags = c .handle .last .1 .1 .1 .1 .1 .1 .1 .1 .1 .0; log = c .handle .last .1 .1 .1 .1 .1 .1 .1 .1 .1 .1 .0; masks = c .handle .last .1 .1 .1 .1 .1 .1 .1 .1 .1 .1 .1 .0; tallies = c .handle .last .1 .1 .1 .1 .1 .1 .1 .1 .1 .1 .1 .1 .0; words = c .handle .last .1 .1 .1 .1 .1 .1 .1 .1 .1 .1 .1 .1 .1 .0; levels = c .handle .last .1 .1 .1 .1 .1 .1 .1 .1 .1 .1 .1 .1 .1 .1 .0 } }
+after-handle c = let b = else1 (c .before .before .before .before .before .before .before .before .before .before .before .before .before .before .before .before .before .before .before) in record { args = b .args; start = b .start; handle = c .handle; handle-last = record { state = c .handle .last .1 .1 .0; policy = c .handle .last .1 .1 .1 .0; prio = c .handle .last .1 .1 .1 .1 .0; cpu = c .handle .last .1 .1 .1 .1 .1 .0; slice = c .handle .last .1 .1 .1 .1 .1 .1 .0; mask = c .handle .last .1 .1 .1 .1 .1 .1 .1 .0; rows = c .handle .last .1 .1 .1 .1 .1 .1 .1 .1 .0; counts = c .handle .last .1 .1 .1 .1 .1 .1 .1 .1 .1 .0; flags = c .handle .last .1 .1 .1 .1 .1 .1 .1 .1 .1 .1 .0; log = c .handle .last .1 .1 .1 .1 .1 .1 .1 .1 .1 .1 .1 .0; masks = c .handle .last .1 .1 .1 .1 .1 .1 .1 .1 .1 .1 .1 .1 .0; tallies = c .handle .last .1 .1 .1 .1 .1 .1 .1 .1 .1 .1 .1 .1 .1 .0; words = c .handle .last .1 .1 .1 .1 .1 .1 .1 .1 .1 .1 .1 .1 .1 .1 .0; levels = c .handle .last .1 .1 .1 .1 .1 .1 .1 .1 .1 .1 .1 .1 .1 .1 .1 .0 } }
 
 abbrev pub returns : (c : tie.Then1) → typeOf (then1 c)
 returns c = then1 c
@@ -50,7 +50,6 @@ close a0 a1 a2 a3 =
     (λ c. refl)
     a1
     a2
-    (λ c. returns-2 c .handle .kept .1 .0)
     (λ c. returns-2 c .handle .kept .1 .1 .0)
     (λ c. returns-2 c .handle .kept .1 .1 .1 .0)
     (λ c. returns-2 c .handle .kept .1 .1 .1 .1 .0)
@@ -60,4 +59,5 @@ close a0 a1 a2 a3 =
     (λ c. returns-2 c .handle .kept .1 .1 .1 .1 .1 .1 .1 .1 .0)
     (λ c. returns-2 c .handle .kept .1 .1 .1 .1 .1 .1 .1 .1 .1 .0)
     (λ c. returns-2 c .handle .kept .1 .1 .1 .1 .1 .1 .1 .1 .1 .1 .0)
+    (λ c. returns-2 c .handle .kept .1 .1 .1 .1 .1 .1 .1 .1 .1 .1 .1 .0)
     a3)

@@ -18,7 +18,7 @@ use Rattle.placement.specs.Held.{Held, Entering}
 use Rattle.placement.proofs.Joining.{can-leave, has-left}
 use Rattle.migration.specs.Settling.{Stepping}
 use Rattle.mover.proofs.Candidates.{tail-in}
-use Rattle.mover.proofs.Choose.{levels-left}
+use Rattle.choosing.proofs.Steps.{levels-left}
 use Rattle.migration.proofs.settle.migrate.Statement.{statement}
 use Rattle.migration.proofs.settle.migrate.Tie as tie
 use Rattle.migration.proofs.settle.migrate.Proof.Paths as at

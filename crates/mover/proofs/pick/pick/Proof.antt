@@ -1,44 +1,45 @@
 -- `mover::pick::pick` meets its contract. The loop's invariant: the best of the rows passed, and a task waits on the CPU at hand. Assumes nothing.
-use mathlib.Core.Path.{_≡_, sym, _∙_, subst}
+use mathlib.Core.Path.{_≡_, refl, sym, _∙_, subst}
 use Prim.Native.Nat.{ℕ, _-_, _≤_, _<_}
 use native.Mathlib.Numerals.{add-one}
-use native.Mathlib.Nat.{not-suc-le-zero}
 use native.Mathlib.Omega.{arith}
 use lib.ListN.{length, getD}
 use Rattle.rules.specs.Machine.{Machine}
 use Rattle.mover.specs.Foremost.{Looking, BestOf}
-use Rattle.mover.proofs.Candidates.{looking-cpus, skip-best}
+use Rattle.mover.specs.Wanted.{meant}
+use Rattle.mover.proofs.Candidates.{looking-cpus, no-best, skip-best}
 use Rattle.mover.proofs.pick.pick.Statement.{statement}
 use Rattle.mover.proofs.pick.pick.Tie as tie
 use Rattle.mover.proofs.pick.pick.Proof.Paths as at
 mod Paths
 
 abbrev Inv-loop : tie.InvT-loop
-Inv-loop n prio mask rows counts masks best₀ cpu₀ best cpu = (cpu ≤ n) × (cpu < n → 2 ≤ getD counts cpu 0) × ((m : Machine) → Looking m prio mask counts rows masks → n ≡ m .n → BestOf m cpu best)
+Inv-loop test n prio mask rows counts masks best₀ cpu₀ best cpu = (cpu ≤ n) × (cpu < n → 2 ≤ getD counts cpu 0) × ((m : Machine) → Looking m prio mask counts rows masks → n ≡ m .n → BestOf (meant m test) m cpu best)
 
 abbrev μ-loop : tie.MeasureT-loop
-μ-loop n prio mask rows counts masks best₀ cpu₀ best cpu = n - cpu
+μ-loop test n prio mask rows counts masks best₀ cpu₀ best cpu = n - cpu
 
 -- there is a count for each CPU
 counted : (a : tie.Start Inv-loop μ-loop) → a .args .n ≡ length (a .args .counts .now)
-counted a = a .pre .1 .1 ∙ sym (looking-cpus (a .pre .0) _ _ _ _ _ (a .pre .1 .0))
+counted a = a .pre .1 .1 .1 ∙ sym (looking-cpus (a .pre .1 .1 .0))
 
 next-waiting-requires : tie.Need-next-waiting-requires Inv-loop μ-loop
 next-waiting-requires c κs = let e = counted (at.next-waiting-requires c .start) in (omega arith, omega arith)
 
 loop-holds : tie.Need-loop-holds Inv-loop μ-loop
 loop-holds c =
-    let next = at.loop-holds c .next-waiting .ensures in (
+    let p = at.loop-holds c in
+    let next = p .next-waiting .ensures in (
       next .most,
       next .some,
-      λ m k e. skip-best m _ _ _ _ _ k _ 0 _ _ e next (record { none = λ z d h. absurd (not-suc-le-zero h); some = λ p. absurd (not-suc-le-zero p) }),
+      λ m k e. skip-best k (p .args .test) _ 0 _ _ e next (no-best k (p .args .test) _ refl (p .least .ensures)),
     )
 
 better-requires : tie.Need-better-requires Inv-loop μ-loop
 better-requires c κs =
     let k = at.better-requires c in
     let a = k .start in
-    (a .pre .0, (a .pre .1 .0, omega (arith, a .pre .1 .1), k .loop .inv .1 (omega arith)))
+    (a .pre .0, (a .pre .1 .0, (a .pre .1 .1 .0, omega (arith, a .pre .1 .1 .1), k .loop .inv .1 (omega arith))))
 
 add-next-waiting : tie.Need-add-next-waiting Inv-loop μ-loop
 add-next-waiting c = omega arith
@@ -57,8 +58,8 @@ loop-again c =
       next .most,
       next .some,
       λ m k e.
-          skip-best m _ _ _ _ _ k _ _ _ _ e next
-          (subst (λ (i : ℕ). BestOf m i (p .better .result)) (sym (add-one (l .cpu)))
+          skip-best k (p .args .test) _ _ _ _ e next
+          (subst (λ (i : ℕ). BestOf (meant m (p .args .test)) m i (p .better .result)) (sym (add-one (l .cpu)))
           (p .better .ensures m k (omega (arith, p .loop-test .taken)) (l .inv .2 m k e))),
     )
 
@@ -67,7 +68,7 @@ returns c =
     let p = at.returns c in
     let l = p .loop in
     let all : l .cpu ≡ p .args .n = omega arith in
-    λ m k e. subst (λ (i : ℕ). BestOf m i (l .best)) all (l .inv .2 m k e)
+    λ m k e. subst (λ (i : ℕ). BestOf (meant m (p .args .test)) m i (l .best)) all (l .inv .2 m k e)
 
 pub pick-spec : {M : Type 1} → statement M
 pick-spec =

@@ -15,8 +15,8 @@ after-shared-slice-known5 c = let b = start (c .before .before .before .before .
 abbrev pub after-scan : (c : tie.After-scan) → let b = after-shared-slice-known5 (c .before .before) in record { args : typeOf (b .args); pre : typeOf (b .pre); start : typeOf (b .start); scan : typeOf (c .scan) }
 after-scan c = let b = after-shared-slice-known5 (c .before .before) in record { args = b .args; pre = b .pre; start = b .start; scan = c .scan }
 
-abbrev pub then1 : (c : tie.Then1) → let b = after-scan (c .before) in record { start : typeOf (b .start); scan : typeOf (b .scan); if1 : typeOf (c .if1) }
-then1 c = let b = after-scan (c .before) in record { start = b .start; scan = b .scan; if1 = c .if1 }
+abbrev pub then1 : (c : tie.Then1) → let b = after-scan (c .before) in record { args : typeOf (b .args); scan : typeOf (b .scan); if1 : typeOf (c .if1) }
+then1 c = let b = after-scan (c .before) in record { args = b .args; scan = b .scan; if1 = c .if1 }
 
 abbrev pub else1 : (c : tie.Else1) → let b = after-scan (c .before) in record { args : typeOf (b .args); pre : typeOf (b .pre); start : typeOf (b .start); scan : typeOf (b .scan); if1 : typeOf (c .if1); else1 : tie.Else1 }
 else1 c = let b = after-scan (c .before) in record { args = b .args; pre = b .pre; start = b .start; scan = b .scan; if1 = c .if1; else1 = c }

@@ -1,35 +1,42 @@
 -- The places of `mover::pick::pick` by name, and its needs that are plumbing. Written by `scripts/paths mover`: not to be edited.
 -- Assumes nothing.
+use borrow.Author.Needs.{needs}
 use Rattle.mover.proofs.pick.pick.Statement.{statement}
 use Rattle.mover.proofs.pick.pick.Tie as tie
 
 abbrev typeOf : {A : Type 0} → A → Type 0
 typeOf {A} x = A
 
+least-requires : {i0 : tie.InvT-loop} → {i1 : tie.MeasureT-loop} → tie.Need-least-requires i0 i1
+least-requires c κs = search needs
+
 module _ {i0 : tie.InvT-loop} {i1 : tie.MeasureT-loop} where
   abbrev pub start : (c : tie.Start i0 i1) → record { args : typeOf (c .args); start : tie.Start i0 i1 }
   start c = record { args = c .args; start = c }
 
-  abbrev pub after-next-waiting : (c : tie.After-next-waiting i0 i1) → let b = start (c .before .before .before .before .before) in record { args : typeOf (b .args); start : typeOf (b .start); next-waiting : typeOf (c .next-waiting) }
-  after-next-waiting c = let b = start (c .before .before .before .before .before) in record { args = b .args; start = b .start; next-waiting = c .next-waiting }
+  abbrev pub after-least : (c : tie.After-least i0 i1) → let b = start (c .before .before .before .before .before) in record { args : typeOf (b .args); start : typeOf (b .start); least : typeOf (c .least) }
+  after-least c = let b = start (c .before .before .before .before .before) in record { args = b .args; start = b .start; least = c .least }
+
+  abbrev pub after-next-waiting : (c : tie.After-next-waiting i0 i1) → let b = after-least (c .before) in record { args : typeOf (b .args); start : typeOf (b .start); least : typeOf (b .least); next-waiting : typeOf (c .next-waiting) }
+  after-next-waiting c = let b = after-least (c .before) in record { args = b .args; start = b .start; least = b .least; next-waiting = c .next-waiting }
 
   abbrev pub at-loop : (c : tie.At-loop i0 i1) → let b = after-next-waiting (c .before) in record { args : typeOf (b .args); start : typeOf (b .start); loop : typeOf (c .loop) }
   at-loop c = let b = after-next-waiting (c .before) in record { args = b .args; start = b .start; loop = c .loop }
 
-  abbrev pub in-loop : (c : tie.In-loop i0 i1) → let b = at-loop (c .before) in record { start : typeOf (b .start); loop : typeOf (b .loop); loop-test : typeOf (c .loop-test) }
-  in-loop c = let b = at-loop (c .before) in record { start = b .start; loop = b .loop; loop-test = c .loop-test }
+  abbrev pub in-loop : (c : tie.In-loop i0 i1) → let b = at-loop (c .before) in record { args : typeOf (b .args); start : typeOf (b .start); loop : typeOf (b .loop); loop-test : typeOf (c .loop-test) }
+  in-loop c = let b = at-loop (c .before) in record { args = b .args; start = b .start; loop = b .loop; loop-test = c .loop-test }
 
   abbrev pub after-loop : (c : tie.After-loop i0 i1) → let b = at-loop (c .before) in record { args : typeOf (b .args); loop : typeOf (b .loop) }
   after-loop c = let b = at-loop (c .before) in record { args = b .args; loop = b .loop }
 
-  abbrev pub after-better : (c : tie.After-better i0 i1) → let b = in-loop (c .before) in record { start : typeOf (b .start); loop : typeOf (b .loop); loop-test : typeOf (b .loop-test); better : typeOf (c .better) }
-  after-better c = let b = in-loop (c .before) in record { start = b .start; loop = b .loop; loop-test = b .loop-test; better = c .better }
+  abbrev pub after-better : (c : tie.After-better i0 i1) → let b = in-loop (c .before) in record { args : typeOf (b .args); start : typeOf (b .start); loop : typeOf (b .loop); loop-test : typeOf (b .loop-test); better : typeOf (c .better) }
+  after-better c = let b = in-loop (c .before) in record { args = b .args; start = b .start; loop = b .loop; loop-test = b .loop-test; better = c .better }
 
-  abbrev pub after-next-waiting2 : (c : tie.After-next-waiting2 i0 i1) → let b = after-better (c .before) in record { loop : typeOf (b .loop); loop-test : typeOf (b .loop-test); better : typeOf (b .better); next-waiting2 : typeOf (c .next-waiting2) }
-  after-next-waiting2 c = let b = after-better (c .before) in record { loop = b .loop; loop-test = b .loop-test; better = b .better; next-waiting2 = c .next-waiting2 }
+  abbrev pub after-next-waiting2 : (c : tie.After-next-waiting2 i0 i1) → let b = after-better (c .before) in record { args : typeOf (b .args); loop : typeOf (b .loop); loop-test : typeOf (b .loop-test); better : typeOf (b .better); next-waiting2 : typeOf (c .next-waiting2) }
+  after-next-waiting2 c = let b = after-better (c .before) in record { args = b .args; loop = b .loop; loop-test = b .loop-test; better = b .better; next-waiting2 = c .next-waiting2 }
 
-  abbrev pub next-waiting-requires : (c : tie.After-shared-slice-known4 i0 i1) → typeOf (start (c .before .before .before .before))
-  next-waiting-requires c = start (c .before .before .before .before)
+  abbrev pub next-waiting-requires : (c : tie.After-least i0 i1) → typeOf (after-least c)
+  next-waiting-requires c = after-least c
 
   abbrev pub loop-holds : (c : tie.After-next-waiting i0 i1) → typeOf (after-next-waiting c)
   loop-holds c = after-next-waiting c
@@ -55,6 +62,7 @@ close i0 i1 a0 a1 a2 a3 a4 a5 a6 a7 =
     (tie.spec
     i0
     i1
+    least-requires
     a0
     a1
     a2

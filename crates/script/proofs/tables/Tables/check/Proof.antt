@@ -22,16 +22,16 @@ slice-aggregate-check-2 : tie.Need-slice-aggregate-check-2
 slice-aggregate-check-2 c = search needs
 
 slice-aggregate-check-3 : tie.Need-slice-aggregate-check-3
-slice-aggregate-check-3 c = let g = at.slice-aggregate-check-3 c .start .good .0 .1 .1 .1 .1 .0 in search needs
+slice-aggregate-check-3 c = search needs
 
 slice-aggregate-check-4 : tie.Need-slice-aggregate-check-4
-slice-aggregate-check-4 c = let g = at.slice-aggregate-check-4 c .start .good .0 .1 .1 .1 .1 .0 in search needs
+slice-aggregate-check-4 c = search needs
 
 slice-aggregate-check-5 : tie.Need-slice-aggregate-check-5
-slice-aggregate-check-5 c = let g = at.slice-aggregate-check-5 c .start .good .0 .1 .1 .1 .1 .0 in search needs
+slice-aggregate-check-5 c = search needs
 
 slice-aggregate-check-6 : tie.Need-slice-aggregate-check-6
-slice-aggregate-check-6 c = let g = at.slice-aggregate-check-6 c .start .good .0 .1 .1 .1 .1 .0 in search needs
+slice-aggregate-check-6 c = search needs
 
 mul-rows : tie.Need-mul-rows
 mul-rows c = search needs
@@ -39,8 +39,8 @@ mul-rows c = search needs
 array-share-prefix-rows : tie.Need-array-share-prefix-rows
 array-share-prefix-rows c =
     let k = at.array-share-prefix-rows c in
-    let g = k .start .good .0 .1 .1 .1 .1 .1 .0 in
-    let e : length (k .args .self .queues .rows) ≡ 33280 = search needs in
+    let g = k .start .good .0 .1 .1 .1 .1 .1 .1 .1 .1 .1 .1 .0 in
+    let e : length (k .args .self .rows) ≡ 33280 = search needs in
     omega (arith, e, k .part .ensures)
 
 slice-aggregate-check-7 : tie.Need-slice-aggregate-check-7
@@ -49,8 +49,8 @@ slice-aggregate-check-7 c = sym (length-take-le _ _ (array-share-prefix-rows (c 
 array-share-prefix-counts : tie.Need-array-share-prefix-counts
 array-share-prefix-counts c =
     let k = at.array-share-prefix-counts c in
-    let g = k .start .good .0 .1 .1 .1 .1 .1 .0 in
-    let e : length (k .args .self .queues .counts) ≡ 65 = search needs in
+    let g = k .start .good .0 .1 .1 .1 .1 .1 .1 .1 .1 .1 .1 .1 .0 in
+    let e : length (k .args .self .counts) ≡ 65 = search needs in
     omega (arith, e, k .part .ensures)
 
 slice-aggregate-check-8 : tie.Need-slice-aggregate-check-8
@@ -59,15 +59,15 @@ slice-aggregate-check-8 c = sym (length-take-le _ _ (array-share-prefix-counts (
 array-share-prefix-flags : tie.Need-array-share-prefix-flags
 array-share-prefix-flags c =
     let k = at.array-share-prefix-flags c in
-    let g = k .start .good .0 .1 .1 .1 .1 .1 .0 in
-    let e : length (k .args .self .queues .flags) ≡ 65 = search needs in
+    let g = k .start .good .0 .1 .1 .1 .1 .1 .1 .1 .1 .1 .1 .1 .1 .0 in
+    let e : length (k .args .self .flags) ≡ 65 = search needs in
     omega (arith, e, k .part .ensures)
 
 slice-aggregate-check-9 : tie.Need-slice-aggregate-check-9
 slice-aggregate-check-9 c = sym (length-take-le _ _ (array-share-prefix-flags (c .before)))
 
 slice-aggregate-check-10 : tie.Need-slice-aggregate-check-10
-slice-aggregate-check-10 c = let g = at.slice-aggregate-check-10 c .start .good .0 .1 .1 .1 .1 .1 .0 in search needs
+slice-aggregate-check-10 c = let g = at.slice-aggregate-check-10 c .start .good .0 .1 .1 .1 .1 .1 .1 .1 .1 .1 .1 .1 .1 .1 .0 in search needs
 
 record-requires : tie.Need-record-requires
 record-requires c κs = search needs

@@ -1,5 +1,4 @@
 -- `script::tables::Tables::fresh` meets its contract: the parts that are lent have their lengths.
-
 use borrow.Author.Needs.{needs}
 use mathlib.Core.Path.{sym}
 use lib.Seq.{length-take-le}
@@ -57,17 +56,8 @@ fresh-requires c κs = search needs
 make-fresh-requires : tie.Need-make-fresh-requires
 make-fresh-requires c κs = search needs
 
-of-requires : tie.Need-of-requires
-of-requires c κs = search needs
-
-of-requires-2 : tie.Need-of-requires-2
-of-requires-2 c κs = search needs
-
 first-requires : tie.Need-first-requires
 first-requires c κs = search needs
-
-of-requires-3 : tie.Need-of-requires-3
-of-requires-3 c κs = search needs
 
 returns : tie.Need-returns
 returns c = search needs
@@ -93,8 +83,5 @@ fresh-spec =
     slice-aggregate-make-fresh-10
     fresh-requires
     make-fresh-requires
-    of-requires
-    of-requires-2
     first-requires
-    of-requires-3
     returns)

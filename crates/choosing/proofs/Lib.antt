@@ -1,0 +1,2 @@
+-- The laws of the step that applies.
+pub mod Steps

@@ -1,0 +1,44 @@
+-- The step that applies, as numbers, and what it is chosen from.
+-- Assumes nothing.
+use mathlib.Core.Path.{_≡_}
+use mathlib.Core.Bool.{cond}
+use mathlib.Core.List.{List}
+use mathlib.Core.Logic.{_≢_}
+use mathlib.Core.Option.{Option, none, some}
+use Prim.Native.Nat.{ℕ, _≤_, _<_}
+use lib.Dec.{eqb, ltb}
+use lib.ListN.{getD}
+use Rattle.bits.specs.Bit.{lowest}
+use Rattle.cpupri.specs.Level.{levelOf}
+use Rattle.cpupri.specs.Found.{lowestLevel, allowedAt}
+use Rattle.rules.specs.Machine.{Machine, levels, taskPlaces, highestPriority}
+use Rattle.rules.specs.Migration.{Move, next}
+use Rattle.rules.specs.Tables.{nothing}
+use Rattle.mover.specs.Foremost.{Looking}
+use Rattle.choosing.specs.declared.Step.{Step}
+
+-- the lent tables hold the machine m of n CPUs: besides, the tasks' CPUs and the record's levels
+pub record Choosing (m : Machine) (n : ℕ) (ps cs ms ks flat masks ls : List ℕ) : Type 0 where
+  pub looking : Looking m ps ms ks flat masks
+  pub cpus : n ≡ m .n
+  pub cpu : cs ≡ m .cpu
+  pub levels : ls ≡ levels m
+
+-- ---- steps
+
+abbrev pub stepOf : Step → Option Move
+stepOf s = cond (eqb (s .task) nothing) none (some (record { task = s .task; origin = s .origin; target = s .target }))
+
+-- the step of the task t, with the destination that the finder gives, if it gives one
+unfoldable pub stepBy : List ℕ → List ℕ → List ℕ → List ℕ → ℕ → Option Move
+stepBy masks ps cs ms t =
+    let below : ℕ = levelOf (getD ps t 0) in
+    let k : ℕ = getD ms t 0 in
+    let l : ℕ = lowestLevel masks below k in
+    cond (eqb t nothing) none
+    (cond (ltb l below) (some (record { task = t; origin = getD cs t 0; target = lowest 64 (allowedAt masks k l) })) none)
+
+-- the step of task t is the one that applies to the machine m, or neither is; and t can be looked up
+pub record Leads (m : Machine) (masks ps cs ms : List ℕ) (t : ℕ) : Type 0 where
+  pub step : stepBy masks ps cs ms t ≡ next m
+  pub task : t ≢ nothing → (t < taskPlaces) × (getD ps t 0 ≤ highestPriority)

@@ -1,0 +1,95 @@
+-- After an event's own effect on a settled machine: the hint from what was read before is true.
+-- Assumes nothing.
+use mathlib.Core.Path.{_≡_, refl, sym, ap, _∙_, subst, subst₂}
+use mathlib.Core.Bool.{Bool, true, false, cond, _&&_}
+use mathlib.Core.List.{List, tail}
+use mathlib.Core.Option.{Option, none, some}
+use Prim.Native.Nat.{ℕ, _<_}
+use native.Mathlib.Omega.{arith}
+use lib.Dec.{eqb, ltb}
+use Rattle.rules.specs.Lists.{In}
+use Rattle.rules.specs.Machine.{Machine, Task as Columns, taskOf, row, running, level, runnable, taskPlaces, cpuPlaces}
+use Rattle.rules.specs.Migration.{next}
+use Rattle.rules.specs.Plan.{carried, Doable}
+use Rattle.rules.specs.Tables.{nothing}
+use Rattle.rules.specs.WellFormed.{WellFormed, Sound, is-free, is-asleep, is-runnable}
+use Rattle.laws.specs.Limited.{Limited, holds, second, fallenCpu, newTask, orNothing}
+use Rattle.laws.proofs.Apart.{in-row, runnable-place}
+use Rattle.laws.proofs.Limited.{waits-in, first-in}
+use Rattle.laws.proofs.Touched.{ran-there, limited-touched, touches-carried, limited-settled, limited-flag}
+use Rattle.plans.specs.Decided.{asPlan, did}
+use Rattle.plans.specs.declared.plan.Decision.{Decision}
+use Rattle.plans.specs.declared.plan.Decision.the-variants.{Refused, Nothing, Place, Flag}
+use Rattle.hinting.specs.Hinted.{cpuOption, taskOption, Hinted}
+use Rattle.hinting.specs.Past.{pastBy, Able, Standing, fallenSince, newSince, hintAfter}
+use Rattle.hinting.proofs.Hints.{some-task, option-task, some-cpu}
+
+-- the CPU of any task is one of the N
+pub cpu-small : (m : Machine) (t : ℕ) → WellFormed m → t < taskPlaces → taskOf m t .cpu < m .n
+cpu-small m t w h = go (w .tasks t h)
+  where
+    go : Sound (m .n) (taskOf m t) → taskOf m t .cpu < m .n
+    go (is-free e) = let z : taskOf m t .cpu ≡ 0 = ap (λ (τ : Columns). τ .cpu) e in omega (arith, w .shape .some-cpu)
+    go (is-asleep s f) = f .cpu
+    go (is-runnable s f) = f .cpu
+
+-- what was read before, and is read after, are the two options of the rules
+module _ (t : ℕ) (m m′ : Machine) (w : WellFormed m) (w′ : WellFormed m′) (h : t < taskPlaces) where
+  abbrev from : ℕ
+  from = taskOf m t .cpu
+
+  abbrev to : ℕ
+  to = taskOf m′ t .cpu
+
+  abbrev ran : Bool
+  ran = holds (running m from) t
+
+  fallen-is : cpuOption (fallenSince from (level m from) ran m′) ≡ fallenCpu t m m′
+  fallen-is = go (ran && ltb (level m′ from) (level m from))
+    where
+      go : (b : Bool) → cpuOption (cond b from cpuPlaces) ≡ cond b (some from) none
+      go true = let small : from < m .n = cpu-small m t w h in some-cpu from (omega (arith, w .shape .cpus))
+      go false = refl
+
+  second-is : taskOption (orNothing (second (row m′ to))) ≡ second (row m′ to)
+  second-is = option-task (second (row m′ to)) (λ u e. runnable-place m′ u w′ (in-row m′ u to w′ (waits-in m′ u to (first-in u (tail (row m′ to)) e)) .0))
+
+  new-is : taskOption (newSince t from ran m′) ≡ newTask t m m′
+  new-is =
+      go (eqb (taskOf m′ t .state) runnable) (holds (running m′ to) t) (ran && eqb from to)
+      ∙ ap (λ (b : Bool). cond (eqb (taskOf m′ t .state) runnable) (cond (holds (running m′ to) t) (cond b none (second (row m′ to))) (some t)) none)
+      (sym (ran-there m t to w))
+    where
+      go : (a b c : Bool) → taskOption (cond a (cond b (cond c nothing (orNothing (second (row m′ to)))) t) nothing)
+          ≡ cond a (cond b (cond c none (second (row m′ to))) (some t)) none
+      go true true true = refl
+      go true true false = second-is
+      go true false c = some-task t h
+      go false b c = refl
+
+  pub hinted-task : Limited m′ (fallenCpu t m m′) (newTask t m m′)
+      → Limited m′ (cpuOption (fallenSince from (level m from) ran m′)) (taskOption (newSince t from ran m′))
+  hinted-task l = subst₂ (λ (a b : Option ℕ). Limited m′ a b) (sym fallen-is) (sym new-is) l
+
+-- whatever was decided
+module _ (m : Machine) (w : WellFormed m) (still : next m ≡ none) where
+  settled-hinted : (d : Decision) → Able m d → WellFormed (did d m) → Hinted (did d m) (hintAfter (pastBy true m d) (did d m))
+  settled-hinted (Refused a) k w′ = limited-settled m still
+  settled-hinted Nothing k w′ = limited-settled m still
+  settled-hinted (Place p) k w′ =
+      hinted-task (p .task) m (carried (asPlan p) m) w w′ (k .task)
+      (limited-touched (p .task) m (carried (asPlan p) m) w w′ (touches-carried m (asPlan p) w k) still)
+  settled-hinted (Flag c b) k w′ = limited-flag m c b w still
+
+pub event-hinted : (s : Bool) (m : Machine) (d : Decision) → WellFormed m → (s ≡ true → next m ≡ none) → Able m d → WellFormed (did d m)
+    → Hinted (did d m) (hintAfter (pastBy s m d) (did d m))
+event-hinted false m d w h k w′ = tt
+event-hinted true m d w h k w′ = settled-hinted m w (h refl) d k w′
+
+-- what was read before can be looked up after
+pub past-stands : (s : Bool) (m m′ : Machine) (d : Decision) → WellFormed m → m′ .n ≡ m .n → Able m d → Standing m′ (pastBy s m d)
+past-stands false m m′ d w e k = tt
+past-stands true m m′ (Refused a) w e k = tt
+past-stands true m m′ Nothing w e k = tt
+past-stands true m m′ (Place p) w e k = (k .task, subst (λ (n : ℕ). taskOf m (p .task) .cpu < n) (sym e) (cpu-small m (p .task) w (k .task)))
+past-stands true m m′ (Flag c b) w e k = tt

@@ -1,0 +1,76 @@
+-- The places of `hinting::past::remember` by name, and its needs that are plumbing. Written by `scripts/paths hinting`: not to be edited.
+-- Assumes nothing.
+use Rattle.hinting.proofs.past.remember.Statement.{statement}
+use Rattle.hinting.proofs.past.remember.Tie as tie
+
+abbrev typeOf : {A : Type 0} → A → Type 0
+typeOf {A} x = A
+
+abbrev pub start : (c : tie.Start) → record { args : typeOf (c .args); pre : typeOf (c .pre) }
+start c = record { args = c .args; pre = c .pre }
+
+abbrev pub then1 : (c : tie.Then1) → let b = start (c .before .before .before) in record { args : typeOf (b .args); if1 : typeOf (c .if1) }
+then1 c = let b = start (c .before .before .before) in record { args = b .args; if1 = c .if1 }
+
+abbrev pub else1 : (c : tie.Else1) → let b = start (c .before .before .before) in record { args : typeOf (b .args); pre : typeOf (b .pre); if1 : typeOf (c .if1) }
+else1 c = let b = start (c .before .before .before) in record { args = b .args; pre = b .pre; if1 = c .if1 }
+
+abbrev pub at-match-keys1 : (c : tie.At-match-keys1) → let b = else1 (c .before) in record { args : typeOf (b .args); pre : typeOf (b .pre); if1 : typeOf (b .if1) }
+at-match-keys1 c = let b = else1 (c .before) in record { args = b .args; pre = b .pre; if1 = b .if1 }
+
+abbrev pub after-decision : (c : tie.After-decision) → let b = at-match-keys1 (c .before) in record { args : typeOf (b .args); pre : typeOf (b .pre); if1 : typeOf (b .if1); decision : typeOf (c .decision) }
+after-decision c = let b = at-match-keys1 (c .before) in record { args = b .args; pre = b .pre; if1 = b .if1; decision = c .decision }
+
+abbrev pub after-standing : (c : tie.After-standing) → let b = after-decision (c .before .before) in record { args : typeOf (b .args); if1 : typeOf (b .if1); decision : typeOf (b .decision); standing : typeOf (c .standing) }
+after-standing c = let b = after-decision (c .before .before) in record { args = b .args; if1 = b .if1; decision = b .decision; standing = c .standing }
+
+abbrev pub at-match-keys2 : (c : tie.At-match-keys2) → let b = else1 (c .before) in record { args : typeOf (b .args); if1 : typeOf (b .if1) }
+at-match-keys2 c = let b = else1 (c .before) in record { args = b .args; if1 = b .if1 }
+
+abbrev pub after-enum-told : (c : tie.After-enum-told) → let b = at-match-keys2 (c .before) in record { args : typeOf (b .args); if1 : typeOf (b .if1); enum-told : typeOf (c .enum-told) }
+after-enum-told c = let b = at-match-keys2 (c .before) in record { args = b .args; if1 = b .if1; enum-told = c .enum-told }
+
+abbrev pub at-match-keys3 : (c : tie.At-match-keys3) → let b = else1 (c .before) in record { args : typeOf (b .args); if1 : typeOf (b .if1) }
+at-match-keys3 c = let b = else1 (c .before) in record { args = b .args; if1 = b .if1 }
+
+abbrev pub after-enum-told2 : (c : tie.After-enum-told2) → let b = at-match-keys3 (c .before) in record { args : typeOf (b .args); if1 : typeOf (b .if1); enum-told2 : typeOf (c .enum-told2) }
+after-enum-told2 c = let b = at-match-keys3 (c .before) in record { args = b .args; if1 = b .if1; enum-told2 = c .enum-told2 }
+
+abbrev pub at-match-keys4 : (c : tie.At-match-keys4) → let b = else1 (c .before) in record { args : typeOf (b .args); if1 : typeOf (b .if1) }
+at-match-keys4 c = let b = else1 (c .before) in record { args = b .args; if1 = b .if1 }
+
+abbrev pub after-enum-told3 : (c : tie.After-enum-told3) → let b = at-match-keys4 (c .before) in record { args : typeOf (b .args); if1 : typeOf (b .if1); enum-told3 : typeOf (c .enum-told3) }
+after-enum-told3 c = let b = at-match-keys4 (c .before) in record { args = b .args; if1 = b .if1; enum-told3 = c .enum-told3 }
+
+abbrev pub returns : (c : tie.Then1) → typeOf (then1 c)
+returns c = then1 c
+
+abbrev pub standing-requires : (c : tie.After-known-told) → typeOf (after-decision (c .before))
+standing-requires c = after-decision (c .before)
+
+abbrev pub returns-2 : (c : tie.After-standing) → typeOf (after-standing c)
+returns-2 c = after-standing c
+
+abbrev pub returns-3 : (c : tie.After-enum-told) → typeOf (after-enum-told c)
+returns-3 c = after-enum-told c
+
+abbrev pub returns-4 : (c : tie.After-enum-told2) → typeOf (after-enum-told2 c)
+returns-4 c = after-enum-told2 c
+
+abbrev pub returns-5 : (c : tie.After-enum-told3) → typeOf (after-enum-told3 c)
+returns-5 c = after-enum-told3 c
+
+pub close : {M : Type 1} → tie.Need-returns → tie.Need-enum-known-decision → tie.Need-standing-requires → tie.Need-enum-told → tie.Need-enum-told-2 → tie.Need-enum-told-3 → tie.Need-returns-2 → tie.Need-returns-3 → tie.Need-returns-4 → tie.Need-returns-5 → statement M
+close a0 a1 a2 a3 a4 a5 a6 a7 a8 a9 =
+    tie.close
+    (tie.spec
+    a0
+    a1
+    a2
+    a3
+    a4
+    a5
+    a6
+    a7
+    a8
+    a9)

@@ -1,0 +1,70 @@
+-- What is read of a task before an event's own effect, and the hint that it gives after it.
+-- Assumes nothing.
+use mathlib.Core.Path.{_≡_}
+use mathlib.Core.Bool.{Bool, true, false, cond, _&&_}
+use mathlib.Core.List.{List}
+use Prim.Native.Nat.{ℕ, _<_}
+use lib.Dec.{eqb, ltb}
+use Rattle.rules.specs.Machine.{Machine, taskOf, row, running, level, levels, runnable, taskPlaces, cpuPlaces}
+use Rattle.rules.specs.Plan.{Doable}
+use Rattle.rules.specs.Tables.{flatOf, nothing}
+use Rattle.rules.specs.WellFormed.{WellFormed}
+use Rattle.laws.specs.Limited.{holds, second, orNothing}
+use Rattle.hinting.specs.declared.hint.Hint.{Hint}
+use Rattle.hinting.specs.declared.hint.Hint.the-variants.{Unknown as Anyone, Few}
+use Rattle.plans.specs.Decided.{asPlan}
+use Rattle.plans.specs.declared.plan.Decision.{Decision}
+use Rattle.plans.specs.declared.plan.Decision.the-variants.{Refused, Nothing, Place, Flag}
+use Rattle.hinting.specs.declared.past.Past.{Past}
+use Rattle.hinting.specs.declared.past.Past.the-variants.{Unknown, Untouched, Task}
+
+-- the lent tables hold the machine m: cs the CPUs, flat the rows, ls the record's levels
+pub record Reading (m : Machine) (cs flat ls : List ℕ) : Type 0 where
+  pub well : WellFormed m
+  pub cpu : cs ≡ m .cpu
+  pub rows : flat ≡ flatOf (m .rows)
+  pub levels : ls ≡ levels m
+
+-- ---- before the effect
+
+-- task t: its CPU, the CPU's level, and whether it runs there
+abbrev pub pastOf : Machine → ℕ → Past
+pastOf m t = let c : ℕ = taskOf m t .cpu in Task t c (level m c) (holds (running m c) t)
+
+-- a decision touches the task that it places
+abbrev pub pastBy : Bool → Machine → Decision → Past
+pastBy false m d = Unknown
+pastBy true m (Refused a) = Untouched
+pastBy true m Nothing = Untouched
+pastBy true m (Place p) = pastOf m (p .task)
+pastBy true m (Flag c b) = Untouched
+
+-- what a decision places can be placed
+abbrev pub Able : Machine → Decision → Type 0
+Able m (Refused a) = Unit {0}
+Able m Nothing = Unit {0}
+Able m (Place p) = Doable m (asPlan p)
+Able m (Flag c b) = Unit {0}
+
+-- ---- after it
+
+-- the CPU that task t ran on, if its level fell; 64 for none
+abbrev pub fallenSince : ℕ → ℕ → Bool → Machine → ℕ
+fallenSince c l ran m = cond (ran && ltb (level m c) l) c cpuPlaces
+
+-- task t if it waits; if it runs, and did not run there before, the task behind it; 65535 for none
+abbrev pub newSince : ℕ → ℕ → Bool → Machine → ℕ
+newSince t c ran m =
+    let d : ℕ = taskOf m t .cpu in
+    cond (eqb (taskOf m t .state) runnable) (cond (holds (running m d) t) (cond (ran && eqb c d) nothing (orNothing (second (row m d)))) t) nothing
+
+abbrev pub hintAfter : Past → Machine → Hint
+hintAfter Unknown m = Anyone
+hintAfter Untouched m = Few cpuPlaces nothing
+hintAfter (Task t c l ran) m = Few (fallenSince c l ran m) (newSince t c ran m)
+
+-- what was read is of a task, and of one of the machine's CPUs
+abbrev pub Standing : Machine → Past → Type 0
+Standing m Unknown = Unit {0}
+Standing m Untouched = Unit {0}
+Standing m (Task t c l ran) = (t < taskPlaces) × (c < m .n)

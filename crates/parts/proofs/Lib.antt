@@ -1,0 +1,3 @@
+-- The laws of the parts of a plan.
+pub mod Optional
+pub mod Flags

@@ -1,0 +1,28 @@
+-- `parts::set_flag` meets its contract.
+-- Assumes nothing.
+use borrow.Author.Needs.{needs}
+use mathlib.Core.Path.{refl}
+use native.Mathlib.Omega.{arith}
+use Rattle.rules.specs.Machine.{withFlag}
+use Rattle.parts.proofs.Flags.{flagged, whole, following, levels-flagged}
+use Rattle.parts.proofs.set_flag.Statement.{statement}
+use Rattle.parts.proofs.set_flag.Tie as tie
+use Rattle.parts.proofs.set_flag.Proof.Paths as at
+mod Paths
+
+slice-write-flags : tie.Need-slice-write-flags
+slice-write-flags c = let l = at.slice-write-flags c .pre .1 in omega (arith, flagged l, l .cpu)
+
+follow-requires : tie.Need-follow-requires
+follow-requires c κs =
+    let k = at.follow-requires c in
+    let l = k .pre .1 in
+    ((withFlag (k .args .cpu) (k .args .work) (k .pre .0), following l refl), whole l)
+
+returns : tie.Need-returns
+returns c =
+    let k = at.returns c in
+    (refl, λ m l. levels-flagged l (k .follow .ensures (withFlag (k .args .cpu) (k .args .work) m) (following l refl)))
+
+pub set-flag-spec : {M : Type 1} → statement M
+set-flag-spec = at.close slice-write-flags follow-requires returns
