@@ -50,7 +50,7 @@ pub fn pick(
     best
 }
 
-// A priority that is below that of every task which passes the test.
+// A priority that is below that of every task which passes the test. Priority p is at level p + 2.
 fn least(test: Test) -> u8
     ensures { λ r. ⌜ r ≡ leastOf test ⌝ }
 {

@@ -63,14 +63,20 @@ fn damaged() {
     }
 }
 
+/// A style of 1 to 64 CPUs, by the number of the case.
+fn style_of(seed: u64, case: u64) -> (Rng, Style) {
+    let mut rng = Rng::for_case(seed, case);
+    let mut style = Style::random(&mut rng);
+    style.n = 1 + case as usize % 64;
+    (rng, style)
+}
+
 /// A fresh machine is settled, and every event leaves it so.
 #[test]
 fn settled_from_fresh() {
     let mut seen = Seen::default();
     for case in 0..128 {
-        let mut rng = Rng::for_case(13, case);
-        let mut style = Style::random(&mut rng);
-        style.n = 1 + case as usize % 64;
+        let (mut rng, style) = style_of(13, case);
         let (_, pool) = machine(&mut rng, &style);
         let fresh = binding::Tables::fresh(style.n).expect("1 to 64 CPUs");
         live(&mut rng, &style, &pool, Pair::new(fresh), &mut seen, 1000);
@@ -83,9 +89,7 @@ fn settled_from_fresh() {
 fn settled_by_an_event() {
     let mut seen = Seen::default();
     for case in 0..1280 {
-        let mut rng = Rng::for_case(14, case);
-        let mut style = Style::random(&mut rng);
-        style.n = 1 + case as usize % 64;
+        let (mut rng, style) = style_of(14, case);
         let (plan, pool) = match case {
             0..64 => chain(&mut rng, &style, true),
             _ => machine(&mut rng, &style),
