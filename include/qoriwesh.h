@@ -30,7 +30,15 @@ extern "C" {
 #define QORIWESH_LEVELS 102     /* CPU-priority levels, 0 to 101 */
 #define QORIWESH_WORDS 2        /* words of level bits */
 #define QORIWESH_LOG_ENTRIES 63 /* moves in the log, at most */
-#define QORIWESH_LOG 189        /* log numbers: (task, from, to) for each move */
+#define QORIWESH_LOG_WIDTH 4    /* numbers of a log entry */
+#define QORIWESH_LOG (QORIWESH_LOG_ENTRIES * QORIWESH_LOG_WIDTH) /* log numbers, 252 */
+
+/* ---- a log entry: entry i begins at place i * QORIWESH_LOG_WIDTH ---- */
+
+#define QORIWESH_LOG_TASK 0      /* the task that moved */
+#define QORIWESH_LOG_FROM 1      /* the CPU that it waited on */
+#define QORIWESH_LOG_TO 2        /* the CPU that it went to */
+#define QORIWESH_LOG_DISPLACED 3 /* the level of that CPU before the move */
 
 /* ---- answers: 0, or the first of these that applies ---- */
 
@@ -83,7 +91,8 @@ extern "C" {
  *   rows                                    n*512   row c from place 512*c on, in run
  *                                                   order: the first of a row runs
  *   counts, flags                           n       tasks in a row; ordinary work, 0 or 1
- *   log                                     189     moves of the last accepted event
+ *   log                                     252     moves of the last accepted event,
+ *                                                   four numbers each
  *
  * and the CPU-priority record:
  *
@@ -142,9 +151,10 @@ uint8_t qoriwesh_check(
  * to a CPU of a lower level.
  *
  * 0: *moves is the number of migrations, at most n-1, and log entry i is
- * migration i: the task, the CPU it waited on, the CPU it went to. Entries from
- * *moves on are older. The tables are well-formed again, and no waiting task
- * outranks what runs on any CPU that it is allowed.
+ * migration i: the task, the CPU it waited on, the CPU it went to, and the level
+ * that this CPU had before (QORIWESH_LOG_TASK and so on). Entries from *moves on
+ * are older. The tables are well-formed again, and no waiting task outranks what
+ * runs on any CPU that it is allowed.
  *
  * 1 to 9: refused, *moves is 0, and every table is as it was.
  */

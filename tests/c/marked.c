@@ -1,8 +1,9 @@
 /* SPDX-License-Identifier: MIT */
 /*
- * Document 01's marked examples K1 to K12 through include/qoriwesh.h, as C and as C++. Each line of an
- * example is an event with what it must answer; what the example says of rows, levels, log and columns is
- * compared after it. Prints the number of examples and exits 0, or says what differs and exits 1.
+ * Document 01's marked examples K1 to K12 through include/qoriwesh.h, as C and as C++; the fourth numbers of the
+ * log are those of document 02, request L2. Each line of an example is an event with what it must answer; what the
+ * example says of rows, levels, log and columns is compared after it. Says so and exits 0, or says what differs and
+ * exits 1.
  */
 #include <stdio.h>
 #include <string.h>
@@ -25,6 +26,15 @@ static void begin(const char *name)
 	example = name;
 }
 
+/* Entries of the log from one on: "every log number is set to 65535", and no move wrote them since. */
+static void unlogged(int from_entry)
+{
+	int i;
+
+	for (i = QORIWESH_LOG_WIDTH * from_entry; i < QORIWESH_LOG; i++)
+		same("a number of the log that no move wrote", m.log[i], QORIWESH_NOTHING);
+}
+
 static void fresh(const char *name, size_t cpus)
 {
 	begin(name);
@@ -32,6 +42,7 @@ static void fresh(const char *name, size_t cpus)
 	same("the fresh machine's answer", qoriwesh_machine_init(&m, cpus), 0);
 	same("the fresh machine's check", qoriwesh_machine_check(&m), 0);
 	same("the check of its tables, lent by hand", qoriwesh_check(QORIWESH_LEND(&m)), 0);
+	unlogged(0);
 }
 
 /* The moves of an accepted event, or a refusal's number, negative; a refused one changes nothing. */
@@ -86,11 +97,14 @@ static void level(int cpu, int want)
 	same("a level", m.levels[cpu], want);
 }
 
-static void logged(int i, int task, int from, int to)
+static void logged(int i, int task, int from, int to, int displaced)
 {
-	same("the task in the log", m.log[3 * i], task);
-	same("the CPU it waited on", m.log[3 * i + 1], from);
-	same("the CPU it went to", m.log[3 * i + 2], to);
+	const uint16_t *entry = &m.log[QORIWESH_LOG_WIDTH * i];
+
+	same("the task in the log", entry[QORIWESH_LOG_TASK], task);
+	same("the CPU it waited on", entry[QORIWESH_LOG_FROM], from);
+	same("the CPU it went to", entry[QORIWESH_LOG_TO], to);
+	same("the level of that CPU before", entry[QORIWESH_LOG_DISPLACED], displaced);
 }
 
 static void k1(void)
@@ -109,7 +123,7 @@ static void k2(const char *name)
 	add(1, 40, 3);
 	wake(1, 0);
 	wake(0, 1);
-	logged(0, 1, 0, 1);
+	logged(0, 1, 0, 1, QORIWESH_LEVEL_IDLE);
 	row1(0, 0);
 	row1(1, 1);
 	level(0, 52);
@@ -143,8 +157,9 @@ static void k5_k6(void)
 	row1(1, 1);
 	row1(2, 2);
 	wake(3, 2);
-	logged(0, 0, 0, 1);
-	logged(1, 1, 1, 2);
+	logged(0, 0, 0, 1, 22);
+	logged(1, 1, 1, 2, 12);
+	unlogged(2);
 	row1(0, 3);
 	row1(1, 0);
 	row2(2, 1, 2);
@@ -160,6 +175,19 @@ static void k5_k6(void)
 	row(0, 0, NULL);
 	level(0, QORIWESH_LEVEL_IDLE);
 	row2(2, 1, 2);
+	logged(0, 0, 0, 1, 22);
+	logged(1, 1, 1, 2, 12);
+}
+
+/* After K6, one move: "log entries from that number on stay as they were". */
+static void later_log(void)
+{
+	begin("the log after K6");
+	add(4, 50, 2);
+	wake(4, 1);
+	logged(0, 0, 1, 0, QORIWESH_LEVEL_IDLE);
+	logged(1, 1, 1, 2, 12);
+	unlogged(2);
 }
 
 static void k7_k8(void)
@@ -171,12 +199,12 @@ static void k7_k8(void)
 	wake(0, 0);
 	wake(1, 0);
 	wake(2, 1);
-	logged(0, 2, 0, 1);
+	logged(0, 2, 0, 1, QORIWESH_LEVEL_IDLE);
 	row2(0, 0, 1);
 	row1(1, 2);
 	k2("K8");
 	event(QORIWESH_AFFINITY, 0, 0, 0, 2, 1);
-	logged(0, 1, 1, 0);
+	logged(0, 1, 1, 0, QORIWESH_LEVEL_IDLE);
 	row1(0, 1);
 	row1(1, 0);
 }
@@ -207,6 +235,7 @@ static void k10_k11(void)
 	add(1, 40, 7);
 	wake(0, 0);
 	wake(1, 1);
+	logged(0, 1, 0, 2, QORIWESH_LEVEL_IDLE);
 	row1(2, 1);
 	level(1, QORIWESH_LEVEL_ORDINARY);
 	fresh("K11", 1);
@@ -251,7 +280,53 @@ static void k12(void)
 	level(0, QORIWESH_LEVEL_PRIO(99));
 }
 
-/* The finder, and what the other examples do not reach: kinds, policies, lengths, damage. */
+/* The parameters that lend the machine's tables with another log. */
+#define LEND_WITH(m, numbers, length) \
+	(m)->cpus, \
+	(m)->state, QORIWESH_TASKS, (m)->policy, QORIWESH_TASKS, \
+	(m)->prio, QORIWESH_TASKS, (m)->cpu, QORIWESH_TASKS, \
+	(m)->slice, QORIWESH_TASKS, (m)->mask, QORIWESH_TASKS, \
+	(m)->rows, QORIWESH_TASKS * (m)->cpus, \
+	(m)->counts, (m)->cpus, (m)->flags, (m)->cpus, \
+	(numbers), (length), \
+	(m)->level_masks, QORIWESH_LEVELS, (m)->level_counts, QORIWESH_LEVELS, \
+	(m)->level_words, QORIWESH_WORDS, (m)->levels, QORIWESH_CPUS
+
+/* The three entries that are lent a log, on one of another length: each is refused, and changes nothing. */
+static void log_refused(size_t length)
+{
+	static struct qoriwesh_machine before;
+	uint16_t numbers[QORIWESH_LOG + 1], kept[QORIWESH_LOG + 1];
+	uint32_t moves = 7;
+
+	memset(numbers, 0x5a, sizeof(numbers));
+	memcpy(kept, numbers, sizeof(numbers));
+	memcpy(&before, &m, sizeof(m));
+	same("the check with this log", qoriwesh_check(LEND_WITH(&m, numbers, length)), QORIWESH_ESIZE);
+	same("the event with this log",
+	     qoriwesh_event(LEND_WITH(&m, numbers, length), QORIWESH_SLEEP, 0, 0, 0, 0, &moves), QORIWESH_ESIZE);
+	same("its moves", QORIWESH_INT(moves), 0);
+	same("the fresh machine with this log", qoriwesh_make_fresh(LEND_WITH(&m, numbers, length)), QORIWESH_ESIZE);
+	same("what they changed in the log", memcmp(kept, numbers, sizeof(numbers)) != 0, 0);
+	same("what they changed", memcmp(&before, &m, sizeof(m)) != 0, 0);
+}
+
+/* "The log becomes 252 numbers, 63 entries of four, and refusal 1 [...] follow" */
+static void lengths(void)
+{
+	uint16_t numbers[QORIWESH_LOG];
+
+	k2("lengths of the log");
+	same("its numbers", QORIWESH_LOG, 252);
+	memset(numbers, 0x5a, sizeof(numbers));
+	same("the check with 252 numbers", qoriwesh_check(LEND_WITH(&m, numbers, QORIWESH_LOG)), QORIWESH_OK);
+	log_refused(0);
+	log_refused(189);
+	log_refused(QORIWESH_LOG - 1);
+	log_refused(QORIWESH_LOG + 1);
+}
+
+/* The finder, and what the other examples do not reach: kinds, policies, damage. */
 static void others(void)
 {
 	uint8_t found_level;
@@ -278,10 +353,12 @@ int main(void)
 	k2("K2");
 	k3_k4();
 	k5_k6();
+	later_log();
 	k7_k8();
 	k9();
 	k10_k11();
 	k12();
+	lengths();
 	others();
 	if (!wrong)
 		printf("K1 to K12, the finder and the refusals are as document 01 says\n");

@@ -1,7 +1,7 @@
 -- The best candidate of all rows, with the destination that the finder gives, is the step that applies; who it is, where few can move; and
 -- leaving a row as its mover keeps every level.
 -- Assumes nothing.
-use mathlib.Core.Path.{_≡_, refl, sym, ap, _∙_, subst}
+use mathlib.Core.Path.{_≡_, refl, sym, ap, ap₂, _∙_, subst}
 use mathlib.Core.Bool.{Bool, true, false, cond, _&&_, _||_, false≢true}
 use mathlib.Core.List.{List, tail}
 use mathlib.Core.Logic.{_≢_, _⊎_, inl, inr}
@@ -23,18 +23,19 @@ use Rattle.rules.specs.WellFormed.{WellFormed, Fit}
 use Rattle.laws.specs.Limited.{holds, drawn, Limited}
 use Rattle.laws.proofs.Apart.{in-row, runnable-fit, runnable-place}
 use Rattle.laws.proofs.Choice.{chosen, chosen-next, none-movable, movable-one, Target, target-of}
-use Rattle.laws.proofs.Finder.{movable-found, found-destination}
+use Rattle.laws.proofs.Finder.{movable-found, found-level, found-destination}
 use Rattle.laws.proofs.Limited.{none-some, candidate-movable}
 use Rattle.laws.proofs.Lists.{same?, in-tails, tails-in, delete-behind}
 use Rattle.laws.proofs.Record.{levels-below}
 use Rattle.laws.proofs.Step.{Origin, origin-row, origin-small}
 use Rattle.placement.proofs.Levels.{levels-row}
+use Rattle.movelog.specs.Entry.{moveBy}
 use Rattle.mover.specs.Foremost.{Foremost, BestOf}
 use Rattle.hinting.specs.Hinted.{taskOption}
 use Rattle.hinting.proofs.Hints.{task-none, task-some}
 use Rattle.choosing.specs.Choosing.{Choosing, stepOf, stepBy, Leads}
 use Rattle.mover.specs.Wanted.{meant}
-use Rattle.choosing.specs.declared.Step.{Step}
+use Rattle.movelog.specs.declared.Step.{Step}
 use Rattle.mover.specs.declared.pick.Mover.{Mover}
 use Rattle.mover.specs.declared.scan.Test.the-variants.{Drawn}
 use Rattle.mover.proofs.Candidates.{tail-in, found-is}
@@ -70,7 +71,7 @@ moves (some v) = v .task
 step-moves : (s : Step) → s .task ≡ moves (stepOf s)
 step-moves s = go (eqb (s .task) nothing) refl
   where
-    go : (b : Bool) → eqb (s .task) nothing ≡ b → s .task ≡ moves (cond b none (some (record { task = s .task; origin = s .origin; target = s .target })))
+    go : (b : Bool) → eqb (s .task) nothing ≡ b → s .task ≡ moves (cond b none (some (moveBy s)))
     go true e = eqb-true (s .task) nothing e
     go false e = refl
 
@@ -80,7 +81,7 @@ no-step masks ps cs ms t e =
     let below : ℕ = levelOf (getD ps t 0) in
     let k : ℕ = getD ms t 0 in
     let l : ℕ = lowestLevel masks below k in
-    ap (λ (b : Bool). cond b none (cond (ltb l below) (some (record { task = t; origin = getD cs t 0; target = lowest 64 (allowedAt masks k l) })) none))
+    ap (λ (b : Bool). cond b none (cond (ltb l below) (some (record { task = t; origin = getD cs t 0; target = lowest 64 (allowedAt masks k l); displaced = l })) none))
     (eq-eqb t nothing e)
 
 module _ (m : Machine) (w : WellFormed m) where
@@ -118,12 +119,14 @@ module _ (m : Machine) (w : WellFormed m) where
         found = lowestLevel (masksOf (levels m)) below (taskOf m u .mask)
 
         found-move : Move
-        found-move = record { task = u; origin = taskOf m u .cpu; target = lowest 64 (allowedAt (masksOf (levels m)) (taskOf m u .mask) found) }
+        found-move = record { task = u; origin = taskOf m u .cpu; target = lowest 64 (allowedAt (masksOf (levels m)) (taskOf m u .mask) found); displaced = found }
 
         go : (b : Bool) → movable m u ≡ b → cond (ltb found below) (some found-move) none ≡ cond b (some (moveOf m u)) none
         go true e =
+            let there = found-destination m w u fit (movable-found m w u fit e) in
             ap (λ (b : Bool). cond b (some found-move) none) (found-is m w u fit ∙ e)
-            ∙ ap (λ (c : ℕ). some (record { task = u; origin = taskOf m u .cpu; target = c })) (found-destination m w u fit (movable-found m w u fit e))
+            ∙ ap₂ (λ (c l : ℕ). some (record { task = u; origin = taskOf m u .cpu; target = c; displaced = l })) there
+            (sym (found-level m w u fit (movable-found m w u fit e)) ∙ ap (level m) there)
         go false e = ap (λ (b : Bool). cond b (some found-move) none) (found-is m w u fit ∙ e)
 
   -- ---- the search through all rows
@@ -147,7 +150,7 @@ module _ (m : Machine) (w : WellFormed m) where
 
     best-next : next m ≡ some (moveOf m t)
     best-next =
-        chosen-next m (record { task = t; origin = b .origin; target = destination m t }) w
+        chosen-next m (record { task = t; origin = b .origin; target = destination m t; displaced = level m (destination m t) }) w
         (record {
           runs = runs t best-waits;
           origin = home;
@@ -161,10 +164,11 @@ module _ (m : Machine) (w : WellFormed m) where
           small = aim .small;
           may = aim .may;
           below = omega (arith, aim .lowest (one .0) (one .1) (one .2), one .3);
+          displaced = refl;
           lowest = aim .lowest;
           nearest = aim .nearest;
         })
-        ∙ ap (λ (c : ℕ). some (record { task = t; origin = c; target = destination m t })) (sym home)
+        ∙ ap (λ (c : ℕ). some (record { task = t; origin = c; target = destination m t; displaced = level m (destination m t) })) (sym home)
       where
         home : taskOf m t .cpu ≡ b .origin
         home = waits-on t (b .origin) (f .waits)

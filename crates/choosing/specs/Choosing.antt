@@ -14,8 +14,9 @@ use Rattle.cpupri.specs.Found.{lowestLevel, allowedAt}
 use Rattle.rules.specs.Machine.{Machine, levels, taskPlaces, highestPriority}
 use Rattle.rules.specs.Migration.{Move, next}
 use Rattle.rules.specs.Tables.{nothing}
+use Rattle.movelog.specs.Entry.{moveBy}
 use Rattle.mover.specs.Foremost.{Looking}
-use Rattle.choosing.specs.declared.Step.{Step}
+use Rattle.movelog.specs.declared.Step.{Step}
 
 -- the lent tables hold the machine m of n CPUs: besides, the tasks' CPUs and the record's levels
 pub record Choosing (m : Machine) (n : ℕ) (ps cs ms ks flat masks ls : List ℕ) : Type 0 where
@@ -27,16 +28,16 @@ pub record Choosing (m : Machine) (n : ℕ) (ps cs ms ks flat masks ls : List �
 -- ---- steps
 
 abbrev pub stepOf : Step → Option Move
-stepOf s = cond (eqb (s .task) nothing) none (some (record { task = s .task; origin = s .origin; target = s .target }))
+stepOf s = cond (eqb (s .task) nothing) none (some (moveBy s))
 
--- the step of the task t, with the destination that the finder gives, if it gives one
+-- the step of the task t, with the destination and the level that the finder gives, if it gives one
 unfoldable pub stepBy : List ℕ → List ℕ → List ℕ → List ℕ → ℕ → Option Move
 stepBy masks ps cs ms t =
     let below : ℕ = levelOf (getD ps t 0) in
     let k : ℕ = getD ms t 0 in
     let l : ℕ = lowestLevel masks below k in
     cond (eqb t nothing) none
-    (cond (ltb l below) (some (record { task = t; origin = getD cs t 0; target = lowest 64 (allowedAt masks k l) })) none)
+    (cond (ltb l below) (some (record { task = t; origin = getD cs t 0; target = lowest 64 (allowedAt masks k l); displaced = l })) none)
 
 -- the step of task t is the one that applies to the machine m, or neither is; and t can be looked up
 pub record Leads (m : Machine) (masks ps cs ms : List ℕ) (t : ℕ) : Type 0 where

@@ -14,18 +14,12 @@ use cpupri::level::Level;
 use cpupri::record::CPUS;
 use cpupri::record::LEVELS;
 use hinting::hint::Hint;
+use movelog::Step;
 use mover::pick::pick;
 use mover::scan::Test;
 use runqueue::row::NOTHING;
 
-// A step: the mover, the CPU it waits on, its destination. Task 65535: no step applies.
-pub struct Step {
-    pub task: u16,
-    pub origin: usize,
-    pub target: usize,
-}
-
-// The step that applies on a machine of n CPUs.
+// The step that applies on a machine of n CPUs. Its task is 65535 if none does.
 pub fn choose(
     hint: Hint,
     n: usize,
@@ -95,26 +89,25 @@ fn step_of(task: u16, prio: &[u8], cpu: &[u8], mask: &[u64], masks: &[u64; LEVEL
             task,
             origin: 0,
             target: 0,
+            displaced: 0,
         };
     }
     let at = task as usize;
-    let below = Level::of_priority(prio[at]).number as usize;
+    let own = Level::of_priority(prio[at]).number;
     let allowed = mask[at];
-    let found = cpupri::find::lowest(masks, below, allowed);
-    let Found::Cpus {
-        level: _,
-        mask: cpus,
-    } = found
-    else {
+    let found = cpupri::find::lowest(masks, own as usize, allowed);
+    let Found::Cpus { level, mask: cpus } = found else {
         return Step {
             task: NOTHING,
             origin: 0,
             target: 0,
+            displaced: 0,
         };
     };
     Step {
         task,
         origin: cpu[at] as usize,
         target: bits::lowest_bit(cpus) as usize,
+        displaced: level,
     }
 }

@@ -150,6 +150,7 @@ chosen-of m w t e =
       small = target .small;
       may = target .may;
       below = strict;
+      displaced = refl;
       lowest = target .lowest;
       nearest = target .nearest;
     }
@@ -217,7 +218,7 @@ none-movable m u e i = go (mover m) refl e
 -- ---- the paper's words leave no choice: two steps of which they hold are one
 
 chosen-same : (m : Machine) (v q : Move) → Chosen m v → Chosen m q → v ≡ q
-chosen-same m v q a b = λ i. record { task = task i; origin = origin i; target = target i }
+chosen-same m v q a b = λ i. record { task = task i; origin = origin i; target = target i; displaced = displaced i }
   where
     waits : (u : Move) → Chosen m u → In (u .task) (waiting m)
     waits u k = in-tails (u .task) (u .origin) (m .rows) (k .waits)
@@ -253,6 +254,9 @@ chosen-same m v q a b = λ i. record { task = task i; origin = origin i; target 
 
     target : v .target ≡ q .target
     target = target-same m (q .task) (v .target) (q .target) (subst (λ (t : ℕ). Target m t (v .target)) task (aim v a)) (aim q b)
+
+    displaced : v .displaced ≡ q .displaced
+    displaced = a .displaced ∙ ap (level m) target ∙ sym (b .displaced)
 
 -- so a step that is as the paper says is the one that applies
 pub chosen-next : (m : Machine) (v : Move) → WellFormed m → Chosen m v → next m ≡ some v

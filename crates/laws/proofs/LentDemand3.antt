@@ -18,11 +18,11 @@ use Rattle.rules.specs.Lists.{occ, In, place}
 use Rattle.rules.specs.Machine.{Machine, taskOf, prioOf, row, head, running, taskPlaces, runnable}
 use Rattle.rules.specs.Events.{Event, effect}
 use Rattle.rules.specs.Migration.{Move, waiting}
-use Rattle.rules.specs.Outcome.{outcome, logged, entryWidth}
+use Rattle.rules.specs.Outcome.{outcome, logged, entryNumbers, entryWidth}
 use Rattle.rules.specs.Demand3.{Demand3, Outdone, movers, receivers}
 use Rattle.rules.specs.Tables.{Tables, machineOf, rowsOf}
 use Rattle.rules.specs.Entry.{Good, Result, eventAnswer, handled}
-use Rattle.rules.specs.LentDemand3.{LentDemand3, Entries, moverAt, receiverAt, taskAt, Busy}
+use Rattle.rules.specs.LentDemand3.{LentDemand3, Entries, entryAt, moverAt, receiverAt, taskAt, Busy}
 use Rattle.laws.proofs.Lists.{in-getD, in-tails, occ-cons, digit-same, falling-at}
 use Rattle.laws.proofs.Order.{place-is, place-lt}
 use Rattle.laws.proofs.Apart.{in-row, row-in, once, runnable-fit}
@@ -136,12 +136,17 @@ module _ (n : ℕ) (r : Record) (s : Tables) (g : Good n r s) where
 -- ---- the log by its numbers
 
 module _ (vs : List Move) (old : List ℕ) (s : Tables) (log : s .log ≡ logged vs old) where
+  -- number j of entry i, as the moves have it
+  entry-is : (i j : ℕ) → i < length vs → j < entryWidth → entryAt s i j ≡ getD (entryNumbers (getD vs i noMove)) j 0
+  entry-is i j h l = ap (λ (q : List ℕ). getD q (entryWidth * i + j) 0) log ∙ logged-entry vs old i j h l
+
   entries-are : Entries s vs
   entries-are =
       record {
-        mover = λ i h. ap (λ (l : List ℕ). getD l (entryWidth * i) 0) log ∙ logged-entry vs old i h .0 ∙ sym (List·getD-map (λ (v : Move). v .task) vs i noMove);
-        origin = λ i h. ap (λ (l : List ℕ). getD l (entryWidth * i + 1) 0) log ∙ logged-entry vs old i h .1 ∙ sym (List·getD-map (λ (v : Move). v .origin) vs i noMove);
-        receiver = λ i h. ap (λ (l : List ℕ). getD l (entryWidth * i + 2) 0) log ∙ logged-entry vs old i h .2 ∙ sym (List·getD-map (λ (v : Move). v .target) vs i noMove);
+        mover = λ i h. entry-is i 0 h (omega arith) ∙ sym (List·getD-map (λ (v : Move). v .task) vs i noMove);
+        origin = λ i h. entry-is i 1 h (omega arith) ∙ sym (List·getD-map (λ (v : Move). v .origin) vs i noMove);
+        receiver = λ i h. entry-is i 2 h (omega arith) ∙ sym (List·getD-map (λ (v : Move). v .target) vs i noMove);
+        displaced = λ i h. entry-is i 3 h (omega arith) ∙ sym (List·getD-map (λ (v : Move). v .displaced) vs i noMove);
       }
 
 -- ---- demand 3

@@ -3,13 +3,11 @@ ghost use mathlib.Core.Path.{_≡_};
 ghost use Rattle.rules.specs.Tables.{lengthsFit};
 ghost use Rattle.lenttables.specs.Lent.{oldTables, sizesFit};
 use cpupri::record::CPUS;
+use rules::log::LOG;
 use runqueue::row::PLACES;
 
-// 63 entries of a task, where it came from and where it went.
-pub const LOG: usize = 189;
-
 // Whether N is 1 to 64 and these are the lengths of the ten tables: the columns 512, the rows N times 512,
-// counts and flags N, the log 189.
+// counts and flags N, the log 63 entries of four numbers.
 pub fn sizes_fit(
     n: usize,
     state: usize,

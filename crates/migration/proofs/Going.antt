@@ -8,14 +8,15 @@ use Prim.Native.Nat.{ℕ, suc, _+_, _*_, _≤_, _<_}
 use native.Mathlib.Omega.{arith}
 use borrow.Author.Tests.{eq-eqb, ne-eqb}
 use lib.ListN.{length, getD, set, length-append, length-map}
+use lib.Seq.{sets}
 use Rattle.cpupri.specs.Record.{recordOf}
 use Rattle.levels.specs.declared.record.Record.{Record}
-use Rattle.rules.specs.Machine.{Machine, running, enqueue, dequeue, taskPlaces}
-use Rattle.rules.specs.Migration.{Move, Settled, next, settleAll}
-use Rattle.rules.specs.Outcome.{logNumbers, logged}
+use Rattle.rules.specs.Machine.{Machine, running, taskPlaces}
+use Rattle.rules.specs.Migration.{Move, Settled, next, migrate, settleAll}
+use Rattle.rules.specs.Outcome.{entryNumbers, entryWidth, logNumbers, logged}
 use Rattle.rules.specs.Tables.{flatOf, logPlaces, nothing}
 use Rattle.rules.specs.WellFormed.{WellFormed}
-use Rattle.laws.proofs.Log.{length-logged}
+use Rattle.laws.proofs.Log.{length-logged, logged-snoc}
 use Rattle.laws.proofs.Runs.{settled-stop}
 use Rattle.laws.specs.Limited.{orNothing}
 use Rattle.laws.proofs.Tables.{length-flat, flat-first}
@@ -23,18 +24,18 @@ use Rattle.placement.specs.Held.{Held}
 use Rattle.hinting.specs.Hinted.{Hinted}
 use Rattle.hinting.specs.declared.hint.Hint.{Hint}
 use Rattle.choosing.specs.Choosing.{Choosing, stepOf}
-use Rattle.choosing.specs.declared.Step.{Step}
+use Rattle.movelog.specs.Entry.{moveBy}
+use Rattle.movelog.specs.declared.Step.{Step}
 use Rattle.migration.specs.Settling.{Settling, Ended}
-use Rattle.migration.proofs.Entries.{logged-snoc}
 use Rattle.migration.proofs.Taken.{Taken, begin, onto, taken-well, taken-few, taken-n, taken-all}
 
 -- ---- the step that was chosen
 
 pub step-none : (s : Step) → s .task ≡ nothing → stepOf s ≡ none
-step-none s e = ap (λ (b : Bool). cond b none (some (record { task = s .task; origin = s .origin; target = s .target }))) (eq-eqb (s .task) nothing e)
+step-none s e = ap (λ (b : Bool). cond b none (some (moveBy s))) (eq-eqb (s .task) nothing e)
 
-pub step-some : (s : Step) → (s .task ≡ nothing → ⊥) → stepOf s ≡ some (record { task = s .task; origin = s .origin; target = s .target })
-step-some s n = ap (λ (b : Bool). cond b none (some (record { task = s .task; origin = s .origin; target = s .target }))) (ne-eqb (s .task) nothing n)
+pub step-some : (s : Step) → (s .task ≡ nothing → ⊥) → stepOf s ≡ some (moveBy s)
+step-some s n = ap (λ (b : Bool). cond b none (some (moveBy s))) (ne-eqb (s .task) nothing n)
 
 -- ---- no step
 
@@ -114,20 +115,19 @@ module _ {m : Machine} (w : WellFormed m) {ps cs ms ks flat old log : List ℕ} 
       ∙ flat-first (e .rows) (g .held .order .fits) d (subst (λ (l : ℕ). d < l) (sym (g .held .order .rows)) h)
 
   -- one step more
-  pub going-on : {t o d : ℕ} → next e ≡ some (record { task = t; origin = o; target = d }) → k * 3 + 2 < length old → {cs′ ks′ flat′ log′ : List ℕ} {r′ : Record} {h′ : Hint}
-      → Held (enqueue t d (dequeue t o e)) ps ks′ flat′ r′ → cs′ ≡ set cs t d → log′ ≡ set (set (set log (k * 3) t) (k * 3 + 1) o) (k * 3 + 2) d
-      → Hinted (enqueue t d (dequeue t o e)) h′ → Going m ps cs′ ms ks′ flat′ old log′ (k + 1) r′ h′
-  going-on {t} {o} {d} n h held ec el known =
+  pub going-on : {v : Move} → next e ≡ some v → entryWidth * suc k ≤ length old → {cs′ ks′ flat′ log′ : List ℕ} {r′ : Record} {h′ : Hint}
+      → Held (migrate v e) ps ks′ flat′ r′ → cs′ ≡ set cs (v .task) (v .target) → log′ ≡ sets log (k * entryWidth) (entryNumbers v)
+      → Hinted (migrate v e) h′ → Going m ps cs′ ms ks′ flat′ old log′ (k + 1) r′ h′
+  going-on {v} n h held ec el known =
       record {
-        steps = g .steps ++ (record { task = t; origin = o; target = d } ∷ []);
-        reached = enqueue t d (dequeue t o e);
+        steps = g .steps ++ v ∷ [];
+        reached = migrate v e;
         taken = onto (g .taken) n;
         held = held;
-        cpus = ec ∙ ap (λ (q : List ℕ). set q t d) (g .cpus);
+        cpus = ec ∙ ap (λ (q : List ℕ). set q (v .task) (v .target)) (g .cpus);
         masks = g .masks;
-        moves = ap (λ (i : ℕ). i + 1) (g .moves) ∙ sym (length-append (g .steps) (record { task = t; origin = o; target = d } ∷ []));
-        logs = el ∙ ap (λ (q : List ℕ). set (set (set q (k * 3) t) (k * 3 + 1) o) (k * 3 + 2) d) (g .logs)
-            ∙ logged-snoc (g .steps) (record { task = t; origin = o; target = d }) old k (g .moves) h;
+        moves = ap (λ (i : ℕ). i + 1) (g .moves) ∙ sym (length-append (g .steps) (v ∷ []));
+        logs = el ∙ ap (λ (q : List ℕ). sets q (k * entryWidth) (entryNumbers v)) (g .logs) ∙ logged-snoc (g .steps) v old k (g .moves) h;
         hint = known;
       }
 

@@ -1,4 +1,3 @@
 -- The laws of the steps one after the other.
 pub mod Taken
-pub mod Entries
 pub mod Going

@@ -7,7 +7,7 @@ use Prim.Native.Nat.{ℕ}
 use lib.ListN.{length}
 use Rattle.levels.specs.declared.record.Record.{Record}
 use Rattle.rules.specs.Machine.{Machine}
-use Rattle.rules.specs.Migration.{Settled, next}
+use Rattle.rules.specs.Migration.{Move, Settled, next}
 use Rattle.rules.specs.Outcome.{logged}
 use Rattle.rules.specs.WellFormed.{WellFormed}
 use Rattle.placement.specs.Held.{Held}
@@ -20,11 +20,11 @@ pub record Settling (m : Machine) (ps cs ms ks flat : List ℕ) (r : Record) : T
   pub cpus : cs ≡ m .cpu
   pub masks : ms ≡ m .mask
 
--- the next step takes the task from its origin to its target, and the tables hold the machine
-pub record Stepping (m : Machine) (ps ks flat : List ℕ) (r : Record) (task origin target : ℕ) : Type 0 where
+-- the step that applies is v, and the tables hold the machine
+pub record Stepping (m : Machine) (ps ks flat : List ℕ) (r : Record) (v : Move) : Type 0 where
   pub well : WellFormed m
   pub held : Held m ps ks flat r
-  pub applies : next m ≡ some (record { task = task; origin = origin; target = target })
+  pub applies : next m ≡ some v
 
 -- the steps s have been taken: the tables hold the machine in which they end, and the log has its entries, k of them
 pub record Ended (s : Settled) (ps cs ks flat old log : List ℕ) (k : ℕ) (r : Record) : Type 0 where

@@ -1,14 +1,14 @@
 // Steps until none applies, each with an entry in the move log.
 ghost use mathlib.Core.Path.{_≡_};
-ghost use Prim.Native.Nat.{_+_, _*_, _<_};
 ghost use lib.ListN.{length, set};
 ghost use Rattle.bits.specs.Moments.{old, new};
 ghost use Rattle.levels.specs.Lent.{nowRecord, oldRecord, newRecord};
-ghost use Rattle.rules.specs.Machine.{Machine, taskPlaces, enqueue, dequeue};
-ghost use Rattle.rules.specs.Migration.{settleAll};
+ghost use Rattle.rules.specs.Machine.{Machine, taskPlaces};
+ghost use Rattle.rules.specs.Migration.{migrate, settleAll};
 ghost use Rattle.rules.specs.Tables.{logPlaces};
 ghost use Rattle.placement.specs.Held.{Held};
 ghost use Rattle.hinting.specs.Hinted.{Hinted};
+ghost use Rattle.movelog.specs.Entry.{moveBy};
 ghost use Rattle.migration.specs.Settling.{Settling, Stepping, Ended};
 use choosing::choose;
 use cpupri::record::CPUS;
@@ -17,6 +17,8 @@ use cpupri::record::WORDS;
 use hinting::hint::Hint;
 use hinting::hint::after;
 use hinting::hint::nobody;
+use movelog::Step;
+use movelog::note;
 use runqueue::row::NOTHING;
 
 // Takes the steps of a machine of n CPUs, of which the hint is true, and says how many there were. There are at most n - 1, so the
@@ -50,27 +52,12 @@ pub fn settle(
     let mut known = hint;
     loop {
         let step = choose(known, n, prio, cpu, mask, rows, counts, masks, levels);
-        let task = step.task;
-        if task == NOTHING {
+        if step.task == NOTHING {
             return moves;
         }
-        let origin = step.origin;
-        let target = step.target;
-        known = after(known, rows, task, target);
-        note(log, moves, task, origin, target);
-        migrate(
-            rows,
-            counts,
-            prio,
-            cpu,
-            masks,
-            tallies,
-            words,
-            levels,
-            origin,
-            target,
-            task,
-        );
+        known = after(known, rows, step.task, step.target);
+        note(log, moves, step);
+        migrate(rows, counts, prio, cpu, masks, tallies, words, levels, step);
         moves += 1;
     }
 }
@@ -86,20 +73,18 @@ fn migrate(
     tallies: &mut [u8; LEVELS],
     words: &mut [u64; WORDS],
     levels: &mut [u8; CPUS],
-    origin: usize,
-    target: usize,
-    task: u16,
+    step: Step,
 )
     requires { let r = nowRecord masks tallies words levels in
-        ⌜ ((m : Machine) × Stepping m (now prio) (now counts) (now rows) r task origin target) ⌝ }
+        ⌜ ((m : Machine) × Stepping m (now prio) (now counts) (now rows) r (moveBy step)) ⌝ }
     requires { ⌜ length (now cpus) ≡ taskPlaces ⌝ }
     ensures { λ u. let r = oldRecord masks tallies words levels in
         let s = newRecord masks tallies words levels in
-        ⌜ ((m : Machine) → Stepping m (old prio) (old counts) (old rows) r task origin target
-        → Held (enqueue task target (dequeue task origin m)) (old prio) (new counts) (new rows) s) ⌝
-        ∗ ⌜ new cpus ≡ set (old cpus) task target ⌝ }
+        ⌜ ((m : Machine) → Stepping m (old prio) (old counts) (old rows) r (moveBy step)
+        → Held (migrate (moveBy step) m) (old prio) (new counts) (new rows) s) ⌝
+        ∗ ⌜ new cpus ≡ set (old cpus) (step .task) (step .target) ⌝ }
 {
-    runqueue::table::dequeue(rows, counts, origin, task);
+    runqueue::table::dequeue(rows, counts, step.origin, step.task);
     placement::enter(
         rows,
         counts,
@@ -109,21 +94,7 @@ fn migrate(
         tallies,
         words,
         levels,
-        target,
-        task,
+        step.target,
+        step.task,
     );
-}
-
-// Entry `entry` of the log: the mover, the CPU it waited on, its destination.
-fn note(log: &mut [u16], entry: usize, task: u16, origin: usize, target: usize)
-    requires { ⌜ entry * 3 + 2 < length (now log) ⌝ }
-    requires { ⌜ entry < 64 ⌝ }
-    requires { ⌜ origin < 64 ⌝ }
-    requires { ⌜ target < 64 ⌝ }
-    ensures { λ u. ⌜ new log ≡ set (set (set (old log) (entry * 3) task) (entry * 3 + 1) origin) (entry * 3 + 2) target ⌝ }
-{
-    let at = entry * 3;
-    log[at] = task;
-    log[at + 1] = origin as u16;
-    log[at + 2] = target as u16;
 }

@@ -16,27 +16,21 @@ pub fn answer(x: u8) {
     text(b"\n");
 }
 
-// The answer, the number of moves and their entries of the log.
-pub fn answered(answer: u8, moves: u32, log: &[u16]) {
+// The answer to an event and the number of moves.
+pub fn answered(answer: u8, moves: u32) {
     number(b": answer ", answer as u64);
     number(b", moves ", moves as u64);
-    let mut i = 0;
-    while i < 63 {
-        if i < moves {
-            entry(log, i as usize);
-        }
-        i += 1;
-    }
-    text(b"\n");
 }
 
-fn entry(log: &[u16], i: usize) {
-    if i < 63 {
-        number(b" (", at(log, 3 * i));
-        number(b",", at(log, 3 * i + 1));
-        number(b",", at(log, 3 * i + 2));
-        text(b")");
+// Numbers that belong together, as those of a log entry.
+pub fn tuple(numbers: &[u16]) {
+    text(b" (");
+    let mut i = 0;
+    while i < numbers.len() {
+        listed(i, at(numbers, i));
+        i += 1;
     }
+    text(b")");
 }
 
 // The number at place i, or 65535 beyond the end.

@@ -159,7 +159,7 @@ after2 = before2 ++ wake 0 ∷ []
 abbrev pub k2 : List Case
 k2 =
     case 2 before2 (wake 0)
-    (gives 1 (1 ∷ 0 ∷ 1 ∷ []) (busy 52 (0 ∷ []) ∷ busy 42 (1 ∷ []) ∷ []) (runs 0 50 0 3 ∷ runs 1 40 1 3 ∷ []))
+    (gives 1 (1 ∷ 0 ∷ 1 ∷ 0 ∷ []) (busy 52 (0 ∷ []) ∷ busy 42 (1 ∷ []) ∷ []) (runs 0 50 0 3 ∷ runs 1 40 1 3 ∷ []))
     ∷ []
 
 abbrev pub before3 : List Event
@@ -194,7 +194,7 @@ k5 =
     case 3 before5 (wake 2)
     (gives 0 [] (busy 32 (0 ∷ []) ∷ busy 22 (1 ∷ []) ∷ busy 12 (2 ∷ []) ∷ []) (runs 0 30 0 3 ∷ runs 1 20 1 6 ∷ runs 2 10 2 4 ∷ sleeps 3 40 0 1 ∷ []))
     ∷ case 3 waiting5 (wake 3)
-    (gives 2 (0 ∷ 0 ∷ 1 ∷ 1 ∷ 1 ∷ 2 ∷ []) (busy 42 (3 ∷ []) ∷ busy 32 (0 ∷ []) ∷ busy 22 (1 ∷ 2 ∷ []) ∷ [])
+    (gives 2 (0 ∷ 0 ∷ 1 ∷ 22 ∷ 1 ∷ 1 ∷ 2 ∷ 12 ∷ []) (busy 42 (3 ∷ []) ∷ busy 32 (0 ∷ []) ∷ busy 22 (1 ∷ 2 ∷ []) ∷ [])
     (runs 0 30 1 3 ∷ runs 1 20 2 6 ∷ runs 2 10 2 4 ∷ runs 3 40 0 1 ∷ []))
     ∷ []
 
@@ -207,13 +207,13 @@ k6 =
 abbrev pub k7 : List Case
 k7 =
     case 2 (add 0 60 1 ∷ add 1 50 1 ∷ add 2 40 3 ∷ wake 0 ∷ wake 1 ∷ []) (wake 2)
-    (gives 1 (2 ∷ 0 ∷ 1 ∷ []) (busy 62 (0 ∷ 1 ∷ []) ∷ busy 42 (2 ∷ []) ∷ []) (runs 0 60 0 1 ∷ runs 1 50 0 1 ∷ runs 2 40 1 3 ∷ []))
+    (gives 1 (2 ∷ 0 ∷ 1 ∷ 0 ∷ []) (busy 62 (0 ∷ 1 ∷ []) ∷ busy 42 (2 ∷ []) ∷ []) (runs 0 60 0 1 ∷ runs 1 50 0 1 ∷ runs 2 40 1 3 ∷ []))
     ∷ []
 
 abbrev pub k8 : List Case
 k8 =
     case 2 after2 (affinity 0 2)
-    (gives 1 (1 ∷ 1 ∷ 0 ∷ []) (busy 42 (1 ∷ []) ∷ busy 52 (0 ∷ []) ∷ []) (runs 0 50 1 2 ∷ runs 1 40 0 3 ∷ []))
+    (gives 1 (1 ∷ 1 ∷ 0 ∷ 0 ∷ []) (busy 42 (1 ∷ []) ∷ busy 52 (0 ∷ []) ∷ []) (runs 0 50 1 2 ∷ runs 1 40 0 3 ∷ []))
     ∷ []
 
 -- a slice of 1 is what 99 ticks leave
@@ -231,7 +231,7 @@ k9 =
 abbrev pub k10 : List Case
 k10 =
     case 3 (ordinary 1 1 ∷ add 0 50 7 ∷ add 1 40 7 ∷ wake 0 ∷ []) (wake 1)
-    (gives 1 (1 ∷ 0 ∷ 2 ∷ []) (busy 52 (0 ∷ []) ∷ ordinaryCpu ∷ busy 42 (1 ∷ []) ∷ []) (runs 0 50 0 7 ∷ runs 1 40 2 7 ∷ []))
+    (gives 1 (1 ∷ 0 ∷ 2 ∷ 0 ∷ []) (busy 52 (0 ∷ []) ∷ ordinaryCpu ∷ busy 42 (1 ∷ []) ∷ []) (runs 0 50 0 7 ∷ runs 1 40 2 7 ∷ []))
     ∷ []
 
 abbrev pub k11 : List Case

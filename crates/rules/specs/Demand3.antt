@@ -21,6 +21,10 @@ origins log = map (λ (v : Move). v .origin) log
 abbrev pub receivers : List Move → List ℕ
 receivers log = map (λ (v : Move). v .target) log
 
+-- the levels that the destinations had before
+abbrev pub displacements : List Move → List ℕ
+displacements log = map (λ (v : Move). v .displaced) log
+
 -- some task runs on CPU c, and task t is not higher; a CPU without a real-time task counts below all
 abbrev pub Outdone : Machine → ℕ → ℕ → Type 0
 Outdone m t c = (u : ℕ) × (running m c ≡ some u) × (prioOf m t ≤ prioOf m u)

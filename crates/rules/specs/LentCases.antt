@@ -70,7 +70,7 @@ withLog log s = lent (s .state) (s .policy) (s .prio) (s .cpu) (s .slice) (s .ma
 abbrev pub lent2 : Tables
 lent2 =
     lent (2 ∷ 2 ∷ 1 ∷ replicate 509 0) (1 ∷ 2 ∷ 1 ∷ replicate 509 0) (99 ∷ 99 ∷ 1 ∷ replicate 509 0) (0 ∷ 0 ∷ 1 ∷ replicate 509 0)
-    (100 ∷ 1 ∷ 50 ∷ replicate 509 0) (1 ∷ 3 ∷ 1 ∷ replicate 509 0) (0 ∷ 1 ∷ replicate 1022 65535) (2 ∷ 0 ∷ []) (0 ∷ 1 ∷ []) (replicate 189 4)
+    (100 ∷ 1 ∷ 50 ∷ replicate 509 0) (1 ∷ 3 ∷ 1 ∷ replicate 509 0) (0 ∷ 1 ∷ replicate 1022 65535) (2 ∷ 0 ∷ []) (0 ∷ 1 ∷ []) (replicate 252 4)
 
 -- CPU 0 is at level 101, bit 37 of word 1, and CPU 1 at level 1
 abbrev pub record2 : Record
@@ -147,7 +147,7 @@ w6 =
 abbrev pub dirty : ℕ → Tables
 dirty n =
     let column : List ℕ = replicate 512 7 in
-    lent column column column column column column (replicate (512 * n) 3) (replicate n 9) (replicate n 5) (replicate 189 4)
+    lent column column column column column column (replicate (512 * n) 3) (replicate n 9) (replicate n 5) (replicate 252 4)
 
 abbrev pub noRecord : Record
 noRecord = lentRecord [] [] [] []
@@ -169,8 +169,9 @@ lengths =
     shortColumn Column.state ∷ shortColumn Column.policy ∷ shortColumn Column.prio ∷ shortColumn Column.cpu ∷ shortColumn Column.slice
     ∷ shortColumn Column.mask
     ∷ checking 1 (withRows (0 ∷ 1 ∷ replicate 1021 65535) (2 ∷ 0 ∷ []) lent2) ∷ checking 1 (withRows (0 ∷ 1 ∷ replicate 1022 65535) (2 ∷ []) lent2)
-    ∷ checking 1 (withFlags (0 ∷ 1 ∷ 0 ∷ []) lent2) ∷ checking 1 (withLog (replicate 188 4) lent2) ∷ checking 1 (withLog (replicate 192 4) lent2)
-    ∷ answers 1 make 2 record2 (withLog (replicate 192 4) lent2) ∷ answers 1 (handle (event 0 0 0 0 0)) 2 noRecord (withLog (replicate 190 4) (dirty 2)) ∷ []
+    ∷ checking 1 (withFlags (0 ∷ 1 ∷ 0 ∷ []) lent2) ∷ checking 1 (withLog (replicate 251 4) lent2) ∷ checking 1 (withLog (replicate 256 4) lent2)
+    ∷ checking 1 (withLog (replicate 189 4) lent2)
+    ∷ answers 1 make 2 record2 (withLog (replicate 256 4) lent2) ∷ answers 1 (handle (event 0 0 0 0 0)) 2 noRecord (withLog (replicate 253 4) (dirty 2)) ∷ []
 
 -- ---- the entries
 
@@ -185,7 +186,7 @@ freshMade =
       cpupri = noRecord;
       tables = dirty 2;
       expected = result 0 0 (lentRecord (3 ∷ replicate 101 0) (2 ∷ replicate 101 0) (1 ∷ 0 ∷ []) (0 ∷ 0 ∷ replicate 62 255))
-          (lent zeros zeros zeros zeros zeros zeros (replicate 1024 65535) (0 ∷ 0 ∷ []) (0 ∷ 0 ∷ []) (replicate 189 65535));
+          (lent zeros zeros zeros zeros zeros zeros (replicate 1024 65535) (0 ∷ 0 ∷ []) (0 ∷ 0 ∷ []) (replicate 252 65535));
     }
     ∷ []
 
@@ -194,7 +195,7 @@ abbrev pub illFormedFirst : List LentCase
 illFormedFirst = checking 2 (dirty 2) ∷ answers 2 (handle (event 0 0 0 0 0)) 2 record2 (withEntry Column.state 2 3 lent2) ∷ []
 
 -- "Accepted is 0 with the number of moves; log entries from that number on stay as they were.": the machine above passes the check, a tick of its
--- empty row does nothing, then task 1 migrates to CPU 1
+-- empty row does nothing, then task 1 migrates to CPU 1, which had ordinary work
 abbrev pub handledMove : List LentCase
 handledMove =
     record {
@@ -204,7 +205,7 @@ handledMove =
       tables = lent2;
       expected = result 0 1 (lentRecord (replicate 101 0 ++ 3 ∷ []) (replicate 101 0 ++ 2 ∷ []) (0 ∷ 2 ^ 37 ∷ []) (101 ∷ 101 ∷ replicate 62 255))
           (lent (lent2 .state) (lent2 .policy) (lent2 .prio) (0 ∷ 1 ∷ 1 ∷ replicate 509 0) (lent2 .slice) (lent2 .mask)
-          (0 ∷ replicate 511 65535 ++ 1 ∷ replicate 511 65535) (1 ∷ 1 ∷ []) (0 ∷ 1 ∷ []) (1 ∷ 0 ∷ 1 ∷ replicate 186 4));
+          (0 ∷ replicate 511 65535 ++ 1 ∷ replicate 511 65535) (1 ∷ 1 ∷ []) (0 ∷ 1 ∷ []) (1 ∷ 0 ∷ 1 ∷ 1 ∷ replicate 248 4));
     }
     ∷ []
 

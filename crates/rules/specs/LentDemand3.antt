@@ -10,18 +10,25 @@ use Rattle.bits.specs.Bit.{bit}
 use Rattle.rules.specs.Machine.{Machine, prioOf, taskPlaces, runnable}
 use Rattle.rules.specs.Outcome.{entryWidth}
 use Rattle.rules.specs.Migration.{Move}
-use Rattle.rules.specs.Demand3.{mostMoves, Steps, movers, origins, receivers}
+use Rattle.rules.specs.Demand3.{mostMoves, Steps, movers, origins, receivers, displacements}
 use Rattle.rules.specs.Tables.{Tables, machineOf}
 
--- entry i of the log: its mover, the CPU it waited on, its destination
+-- number j of the log's entry i
+abbrev pub entryAt : Tables → ℕ → ℕ → ℕ
+entryAt s i j = getD (s .log) (entryWidth * i + j) 0
+
+-- its mover, the CPU it waited on, its destination, and the level that the destination had before
 abbrev pub moverAt : Tables → ℕ → ℕ
-moverAt s i = getD (s .log) (entryWidth * i) 0
+moverAt s i = entryAt s i 0
 
 abbrev pub originAt : Tables → ℕ → ℕ
-originAt s i = getD (s .log) (entryWidth * i + 1) 0
+originAt s i = entryAt s i 1
 
 abbrev pub receiverAt : Tables → ℕ → ℕ
-receiverAt s i = getD (s .log) (entryWidth * i + 2) 0
+receiverAt s i = entryAt s i 2
+
+abbrev pub displacedAt : Tables → ℕ → ℕ
+displacedAt s i = entryAt s i 3
 
 -- place p of row c
 abbrev pub taskAt : Tables → ℕ → ℕ → ℕ
@@ -36,6 +43,7 @@ pub record Entries (s : Tables) (vs : List Move) : Type 0 where
   pub mover : (i : ℕ) → i < length vs → moverAt s i ≡ getD (movers vs) i 0
   pub origin : (i : ℕ) → i < length vs → originAt s i ≡ getD (origins vs) i 0
   pub receiver : (i : ℕ) → i < length vs → receiverAt s i ≡ getD (receivers vs) i 0
+  pub displaced : (i : ℕ) → i < length vs → displacedAt s i ≡ getD (displacements vs) i 0
 
 -- `start` is the machine as the event's own effect leaves it, `moves` the number reported, and s the tables with which the event ends
 pub record LentDemand3 (n moves : ℕ) (start : Machine) (s : Tables) : Type 0 where

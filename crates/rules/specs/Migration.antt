@@ -54,14 +54,15 @@ destination m t = orZero (best (idler m) (allowedCpus m t))
 
 -- ---- the step
 
--- a migration, and an entry of the log: the mover, the CPU it waited on, its destination
+-- a migration, and an entry of the log: the mover, the CPU it waited on, its destination, and the level that the destination had before the move
 pub record Move : Type 0 where
   pub task : ℕ
   pub origin : ℕ
   pub target : ℕ
+  pub displaced : ℕ
 
 abbrev pub moveOf : Machine → ℕ → Move
-moveOf m t = record { task = t; origin = taskOf m t .cpu; target = destination m t }
+moveOf m t = record { task = t; origin = taskOf m t .cpu; target = destination m t; displaced = level m (destination m t) }
 
 abbrev pub nextOf : Machine → Option ℕ → Option Move
 nextOf m none = none
@@ -88,6 +89,8 @@ pub record Chosen (m : Machine) (v : Move) : Type 0 where
   pub small : v .target < m .n
   pub may : allowed m (v .task) (v .target) ≡ true
   pub below : level m (v .target) < levelOf (prioOf m (v .task))
+  -- the level displaced is the destination's, before the move
+  pub displaced : v .displaced ≡ level m (v .target)
   -- none of the allowed has a lower level, and among equals none has a lower number
   pub lowest : (c : ℕ) → c < m .n → allowed m (v .task) c ≡ true → level m (v .target) ≤ level m c
   pub nearest : (c : ℕ) → c < m .n → allowed m (v .task) c ≡ true → level m c ≤ level m (v .target) → v .target ≤ c

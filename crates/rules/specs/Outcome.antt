@@ -36,16 +36,21 @@ outcome m e = answered (refusal m e) e m
 
 -- ---- the move log as numbers
 
--- numbers of a log entry: task, from, to; as many entries as an event can have moves on 64 CPUs
-abbrev pub entryWidth : ℕ
-entryWidth = 3
+-- the numbers of a log entry: task, from, to, the level of the destination before the move
+abbrev pub entryNumbers : Move → List ℕ
+entryNumbers v = v .task ∷ v .origin ∷ v .target ∷ v .displaced ∷ []
 
+-- how many they are
+abbrev pub entryWidth : ℕ
+entryWidth = 4
+
+-- as many entries as an event can have moves on 64 CPUs
 abbrev pub logEntries : ℕ
 logEntries = 63
 
 unfoldable pub logNumbers : List Move → List ℕ
 logNumbers [] = []
-logNumbers (v ∷ vs) = v .task ∷ v .origin ∷ v .target ∷ logNumbers vs
+logNumbers (v ∷ vs) = entryNumbers v ++ logNumbers vs
 
 -- the log table after the moves vs: entries from their number on stay as they were
 abbrev pub logged : List Move → List ℕ → List ℕ

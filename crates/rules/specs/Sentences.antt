@@ -138,7 +138,7 @@ maskingHere =
 abbrev pub maskingAway : List Case
 maskingAway =
     case 3 (ranRR ++ add 1 60 2 ∷ wake 1 ∷ []) (affinity 0 6)
-    (gives 1 (0 ∷ 1 ∷ 2 ∷ []) (idleCpu ∷ busy 62 (1 ∷ []) ∷ busy 22 (0 ∷ []) ∷ []) (runsRR 0 20 2 afterTick 6 ∷ runs 1 60 1 2 ∷ []))
+    (gives 1 (0 ∷ 1 ∷ 2 ∷ 0 ∷ []) (idleCpu ∷ busy 62 (1 ∷ []) ∷ busy 22 (0 ∷ []) ∷ []) (runsRR 0 20 2 afterTick 6 ∷ runs 1 60 1 2 ∷ []))
     ∷ []
 
 -- 7, tick: "first task RR: slice less 1": that task alone
@@ -186,20 +186,20 @@ ordinaryWork =
 abbrev pub movableLevels : List Case
 movableLevels =
     case 2 (ordinary 1 1 ∷ add 0 50 3 ∷ add 1 1 3 ∷ wake 0 ∷ []) (wake 1)
-    (gives 1 (1 ∷ 0 ∷ 1 ∷ []) (busy 52 (0 ∷ []) ∷ shared 3 (1 ∷ []) ∷ []) (runs 0 50 0 3 ∷ runs 1 1 1 3 ∷ []))
+    (gives 1 (1 ∷ 0 ∷ 1 ∷ 1 ∷ []) (busy 52 (0 ∷ []) ∷ shared 3 (1 ∷ []) ∷ []) (runs 0 50 0 3 ∷ runs 1 1 1 3 ∷ []))
     ∷ []
 
 -- "Then migration steps are taken until none applies.": after any event, here a waiting task's mask, a priority and a yield; and three of them
 abbrev pub stepsTaken : List Case
 stepsTaken =
     case 2 (add 0 50 1 ∷ add 1 40 1 ∷ wake 0 ∷ wake 1 ∷ []) (affinity 1 3)
-    (gives 1 (1 ∷ 0 ∷ 1 ∷ []) (busy 52 (0 ∷ []) ∷ busy 42 (1 ∷ []) ∷ []) (runs 0 50 0 1 ∷ runs 1 40 1 3 ∷ []))
+    (gives 1 (1 ∷ 0 ∷ 1 ∷ 0 ∷ []) (busy 52 (0 ∷ []) ∷ busy 42 (1 ∷ []) ∷ []) (runs 0 50 0 1 ∷ runs 1 40 1 3 ∷ []))
     ∷ case 2 (add 0 50 3 ∷ add 1 40 1 ∷ wake 0 ∷ wake 1 ∷ []) (priority 0 30)
-    (gives 1 (0 ∷ 0 ∷ 1 ∷ []) (busy 42 (1 ∷ []) ∷ busy 32 (0 ∷ []) ∷ []) (runs 0 30 1 3 ∷ runs 1 40 0 1 ∷ []))
+    (gives 1 (0 ∷ 0 ∷ 1 ∷ 0 ∷ []) (busy 42 (1 ∷ []) ∷ busy 32 (0 ∷ []) ∷ []) (runs 0 30 1 3 ∷ runs 1 40 0 1 ∷ []))
     ∷ case 2 (add 0 20 3 ∷ add 1 20 1 ∷ wake 0 ∷ wake 1 ∷ []) (yield 0)
-    (gives 1 (0 ∷ 0 ∷ 1 ∷ []) (busy 22 (1 ∷ []) ∷ busy 22 (0 ∷ []) ∷ []) (runs 0 20 1 3 ∷ runs 1 20 0 1 ∷ []))
+    (gives 1 (0 ∷ 0 ∷ 1 ∷ 0 ∷ []) (busy 22 (1 ∷ []) ∷ busy 22 (0 ∷ []) ∷ []) (runs 0 20 1 3 ∷ runs 1 20 0 1 ∷ []))
     ∷ case 4 (add 0 40 3 ∷ add 1 30 6 ∷ add 2 20 12 ∷ add 3 10 8 ∷ add 4 50 1 ∷ wake 0 ∷ wake 1 ∷ wake 2 ∷ wake 3 ∷ []) (wake 4)
-    (gives 3 (0 ∷ 0 ∷ 1 ∷ 1 ∷ 1 ∷ 2 ∷ 2 ∷ 2 ∷ 3 ∷ []) (busy 52 (4 ∷ []) ∷ busy 42 (0 ∷ []) ∷ busy 32 (1 ∷ []) ∷ busy 22 (2 ∷ 3 ∷ []) ∷ [])
+    (gives 3 (0 ∷ 0 ∷ 1 ∷ 32 ∷ 1 ∷ 1 ∷ 2 ∷ 22 ∷ 2 ∷ 2 ∷ 3 ∷ 12 ∷ []) (busy 52 (4 ∷ []) ∷ busy 42 (0 ∷ []) ∷ busy 32 (1 ∷ []) ∷ busy 22 (2 ∷ 3 ∷ []) ∷ [])
     (runs 0 40 1 3 ∷ runs 1 30 2 6 ∷ runs 2 20 3 12 ∷ runs 3 10 3 8 ∷ runs 4 50 0 1 ∷ []))
     ∷ []
 
@@ -211,7 +211,7 @@ twoWait p q = add 0 60 1 ∷ add 1 60 2 ∷ add 2 60 4 ∷ add 3 p 6 ∷ add 4 q
 abbrev pub moverHighest : List Case
 moverHighest =
     case 3 (twoWait 40 30) (sleep 2)
-    (gives 1 (3 ∷ 1 ∷ 2 ∷ []) (busy 62 (0 ∷ 4 ∷ []) ∷ busy 62 (1 ∷ []) ∷ busy 42 (3 ∷ []) ∷ [])
+    (gives 1 (3 ∷ 1 ∷ 2 ∷ 0 ∷ []) (busy 62 (0 ∷ 4 ∷ []) ∷ busy 62 (1 ∷ []) ∷ busy 42 (3 ∷ []) ∷ [])
     (runs 0 60 0 1 ∷ runs 1 60 1 2 ∷ sleeps 2 60 2 4 ∷ runs 3 40 2 6 ∷ runs 4 30 0 5 ∷ []))
     ∷ []
 
@@ -219,7 +219,7 @@ moverHighest =
 abbrev pub moverLowestCpu : List Case
 moverLowestCpu =
     case 3 (twoWait 30 30) (sleep 2)
-    (gives 1 (4 ∷ 0 ∷ 2 ∷ []) (busy 62 (0 ∷ []) ∷ busy 62 (1 ∷ 3 ∷ []) ∷ busy 32 (4 ∷ []) ∷ [])
+    (gives 1 (4 ∷ 0 ∷ 2 ∷ 0 ∷ []) (busy 62 (0 ∷ []) ∷ busy 62 (1 ∷ 3 ∷ []) ∷ busy 32 (4 ∷ []) ∷ [])
     (runs 0 60 0 1 ∷ runs 1 60 1 2 ∷ sleeps 2 60 2 4 ∷ runs 3 30 1 6 ∷ runs 4 30 2 5 ∷ []))
     ∷ []
 
@@ -227,23 +227,31 @@ moverLowestCpu =
 abbrev pub moverEarliest : List Case
 moverEarliest =
     case 2 (add 0 60 1 ∷ add 1 60 2 ∷ add 2 30 3 ∷ add 3 30 3 ∷ wake 0 ∷ wake 1 ∷ wake 3 ∷ wake 2 ∷ []) (sleep 1)
-    (gives 1 (3 ∷ 0 ∷ 1 ∷ []) (busy 62 (0 ∷ 2 ∷ []) ∷ busy 32 (3 ∷ []) ∷ []) (runs 0 60 0 1 ∷ sleeps 1 60 1 2 ∷ runs 2 30 0 3 ∷ runs 3 30 1 3 ∷ []))
+    (gives 1 (3 ∷ 0 ∷ 1 ∷ 0 ∷ []) (busy 62 (0 ∷ 2 ∷ []) ∷ busy 32 (3 ∷ []) ∷ []) (runs 0 60 0 1 ∷ sleeps 1 60 1 2 ∷ runs 2 30 0 3 ∷ runs 3 30 1 3 ∷ []))
     ∷ []
 
 -- "The destination is, of its allowed CPUs, one of the lowest level; among equals the lowest-numbered."
 abbrev pub destinationLowest : List Case
 destinationLowest =
     case 3 (add 0 50 7 ∷ add 1 40 7 ∷ wake 0 ∷ []) (wake 1)
-    (gives 1 (1 ∷ 0 ∷ 1 ∷ []) (busy 52 (0 ∷ []) ∷ busy 42 (1 ∷ []) ∷ idleCpu ∷ []) (runs 0 50 0 7 ∷ runs 1 40 1 7 ∷ []))
+    (gives 1 (1 ∷ 0 ∷ 1 ∷ 0 ∷ []) (busy 52 (0 ∷ []) ∷ busy 42 (1 ∷ []) ∷ idleCpu ∷ []) (runs 0 50 0 7 ∷ runs 1 40 1 7 ∷ []))
     ∷ case 3 (add 0 50 7 ∷ add 1 40 5 ∷ wake 0 ∷ []) (wake 1)
-    (gives 1 (1 ∷ 0 ∷ 2 ∷ []) (busy 52 (0 ∷ []) ∷ idleCpu ∷ busy 42 (1 ∷ []) ∷ []) (runs 0 50 0 7 ∷ runs 1 40 2 5 ∷ []))
+    (gives 1 (1 ∷ 0 ∷ 2 ∷ 0 ∷ []) (busy 52 (0 ∷ []) ∷ idleCpu ∷ busy 42 (1 ∷ []) ∷ []) (runs 0 50 0 7 ∷ runs 1 40 2 5 ∷ []))
     ∷ []
 
 -- "Slices are kept."
 abbrev pub migratingSlice : List Case
 migratingSlice =
     case 2 (addRR 0 20 3 ∷ add 1 50 1 ∷ wake 0 ∷ tick 0 ∷ []) (wake 1)
-    (gives 1 (0 ∷ 0 ∷ 1 ∷ []) (busy 52 (1 ∷ []) ∷ busy 22 (0 ∷ []) ∷ []) (runsRR 0 20 1 afterTick 3 ∷ runs 1 50 0 1 ∷ []))
+    (gives 1 (0 ∷ 0 ∷ 1 ∷ 0 ∷ []) (busy 52 (1 ∷ []) ∷ busy 22 (0 ∷ []) ∷ []) (runsRR 0 20 1 afterTick 3 ∷ runs 1 50 0 1 ∷ []))
+    ∷ []
+
+-- document 02, L2: "Each log entry shall also give the level of the destination before the move": CPU 1 ran task 1 at level 62 before the event, has
+-- ordinary work alone before the move, and is at level 42 after it; CPU 0 is at level 52 throughout
+abbrev pub displacing : List Case
+displacing =
+    case 2 (ordinary 1 1 ∷ add 0 50 1 ∷ add 1 60 2 ∷ add 2 40 3 ∷ wake 0 ∷ wake 1 ∷ wake 2 ∷ []) (sleep 1)
+    (gives 1 (2 ∷ 0 ∷ 1 ∷ 1 ∷ []) (busy 52 (0 ∷ []) ∷ shared 42 (2 ∷ []) ∷ []) (runs 0 50 0 1 ∷ sleeps 1 60 1 2 ∷ runs 2 40 1 3 ∷ []))
     ∷ []
 
 -- ---- refusals: "Checked in this order."; "A refusal reports 0 moves and changes nothing."
@@ -277,5 +285,5 @@ abbrev pub sentences : List Case
 sentences =
     unusedNumbers ++ enteringRow ++ leavingRow ++ adding ++ removing ++ waking ++ wakingElsewhere ++ sleeping ++ prioritisingSleeper
     ++ prioritisingSame ++ prioritising ++ maskingSleeper ++ maskingHere ++ maskingAway ++ tickingRR ++ tickingOut ++ tickingNone ++ yielding ++ ordinaryWork
-    ++ movableLevels ++ stepsTaken ++ moverHighest ++ moverLowestCpu ++ moverEarliest ++ destinationLowest ++ migratingSlice
+    ++ movableLevels ++ stepsTaken ++ moverHighest ++ moverLowestCpu ++ moverEarliest ++ destinationLowest ++ migratingSlice ++ displacing
     ++ refusal3 ++ refusal4 ++ refusal5 ++ refusal6 ++ refusal7

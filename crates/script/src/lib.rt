@@ -24,6 +24,9 @@ use line::Line;
 use line::small;
 use line::word;
 use rules::answer::ACCEPTED;
+use rules::log::ENTRIES;
+use rules::log::ENTRY;
+use rules::log::LOG;
 use tables::Event;
 use tables::Tables;
 
@@ -132,9 +135,22 @@ fn asked(t: Tables, e: Event) -> Tables {
 fn told(t: Tables, kind: u32) {
     let last = t.last;
     let log = t.log;
-    print::answered(last.answer, last.moves, &log);
+    print::answered(last.answer, last.moves);
+    entries(last.moves, log);
+    print::text(b"\n");
     if last.answer == ACCEPTED && kind != ADD {
         shown(t);
+    }
+}
+
+// As many entries of the log.
+fn entries(moves: u32, log: [u16; LOG]) {
+    let mut i = 0;
+    while i < ENTRIES {
+        if (i as u32) < moves {
+            print::tuple(&log[ENTRY * i..ENTRY * i + ENTRY]);
+        }
+        i += 1;
     }
 }
 

@@ -6,6 +6,7 @@ use checker::fresh::Made;
 use cpupri::record::Record;
 use machine::Outcome;
 use rules::answer::ACCEPTED;
+use rules::log::LOG;
 use rules::task::FIFO;
 use rules::task::FULL_SLICE;
 use rules::task::RUNNABLE;
@@ -24,7 +25,7 @@ pub struct Tables {
     pub rows: [u16; 33280],
     pub counts: [u16; 65],
     pub flags: [u8; 65],
-    pub log: [u16; 189],
+    pub log: [u16; LOG],
     pub last: Outcome,
 }
 
@@ -57,7 +58,7 @@ impl Tables {
         let mut rows = [1u16; 33280];
         let mut counts = [1u16; 65];
         let mut flags = [1u8; 65];
-        let mut log = [1u16; 189];
+        let mut log = [1u16; LOG];
         let made = checker::fresh::make_fresh(
             n as usize,
             &mut state,

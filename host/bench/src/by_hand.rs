@@ -1,7 +1,7 @@
 //! The plain version.
 
 use crate::side::{found, outcome, sum, Side, Work};
-use binding::{Event, Tables, TASKS};
+use binding::{Event, Tables, LOG_WIDTH, TASKS};
 use plain::Record;
 use std::hint::black_box;
 
@@ -67,7 +67,7 @@ impl Side for ByHand {
             rows: t.rows.concat(),
             counts: t.counts,
             flags: t.flags,
-            log: t.log,
+            log: t.log.concat(),
             level_masks: r.masks.to_vec(),
             level_counts: r.counts.to_vec(),
             level_words: r.words.to_vec(),
@@ -99,6 +99,7 @@ fn record(t: &Tables) -> Record {
 fn tables(t: &Tables) -> plain::Tables {
     let t = t.clone();
     let row = |places: &[u16]| places.try_into().expect("a whole row");
+    let entry = |numbers: &[u16]| numbers.try_into().expect("a whole entry");
     plain::Tables {
         n: t.n,
         state: t.state,
@@ -110,7 +111,7 @@ fn tables(t: &Tables) -> plain::Tables {
         rows: t.rows.chunks(TASKS).map(row).collect(),
         counts: t.counts,
         flags: t.flags,
-        log: t.log,
+        log: t.log.chunks(LOG_WIDTH).map(entry).collect(),
     }
 }
 

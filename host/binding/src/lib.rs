@@ -108,7 +108,10 @@ pub const TASKS: usize = 512;
 pub const CPUS: usize = 64;
 pub const LEVELS: usize = 102;
 pub const WORDS: usize = 2;
-pub const LOG: usize = 189;
+/// Entries of the log, and the numbers of one, which are those of a [`Move`].
+pub const LOG_ENTRIES: usize = 63;
+pub const LOG_WIDTH: usize = 4;
+pub const LOG: usize = LOG_ENTRIES * LOG_WIDTH;
 /// An unused place of a row, and each number of a fresh log.
 pub const NOTHING: u16 = 65535;
 /// The level of a CPU that is not there, and of a search that finds nothing.
@@ -129,6 +132,16 @@ pub struct Event {
 pub struct Outcome {
     pub answer: u8,
     pub moves: u32,
+}
+
+/// An entry of the log, in the order of its numbers: the task, the CPU that it waited on, the CPU that it went to, and
+/// what it displaced there, the level of that CPU before the move.
+#[derive(Clone, Copy, Debug, PartialEq, Eq)]
+pub struct Move {
+    pub task: u16,
+    pub from: u16,
+    pub to: u16,
+    pub displaced: u16,
 }
 
 /// What the finder answers.
@@ -248,9 +261,43 @@ impl Tables {
         found
     }
 
+    /// The first `count` entries of the log, or as many as it has. After an accepted event, with its number of moves,
+    /// these are its moves.
+    pub fn moves(&self, count: u32) -> impl ExactSizeIterator<Item = Move> + '_ {
+        let entries = self.log.chunks_exact(LOG_WIDTH).take(count as usize);
+        entries.map(|entry| Move {
+            task: entry[0],
+            from: entry[1],
+            to: entry[2],
+            displaced: entry[3],
+        })
+    }
+
     /// The tasks of CPU `c`'s row, in run order. Of well-formed tables.
     pub fn row(&self, c: usize) -> &[u16] {
         let from = TASKS * c;
         &self.rows[from..from + self.counts[c] as usize]
+    }
+}
+
+#[cfg(test)]
+mod tests {
+    use super::*;
+
+    /// Places 0 to 3 of the log are entry 0, places 4 to 7 entry 1, and there are 63.
+    #[test]
+    fn moves_are_the_first_entries_of_the_log() {
+        let mut t = Tables::zeroed(1);
+        t.log = (0..LOG as u16).collect();
+        let entry = |i: u16| Move {
+            task: 4 * i,
+            from: 4 * i + 1,
+            to: 4 * i + 2,
+            displaced: 4 * i + 3,
+        };
+        assert!(t.moves(0).eq([]));
+        assert!(t.moves(2).eq([entry(0), entry(1)]));
+        assert!(t.moves(63).eq((0..63).map(entry)));
+        assert_eq!(t.moves(64).len(), 63);
     }
 }

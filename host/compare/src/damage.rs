@@ -266,6 +266,7 @@ pub fn wrong_size(rng: &mut Rng, t: &Tables) -> Damage {
         right - 1,
         right + 1,
         right / 2,
+        three_of_four(right),
         right * 2,
         right + 511,
     ];
@@ -274,6 +275,11 @@ pub fn wrong_size(rng: &mut Rng, t: &Tables) -> Damage {
         false => rng.below(2 * right + 2),
     };
     Damage::Resize { table, len }
+}
+
+/// Of a log of entries of four numbers, its length with entries of three; of another table, just a wrong one.
+pub fn three_of_four(right: usize) -> usize {
+    right / 4 * 3
 }
 
 /// N that is not the tables', small, large and such that 512 times it wraps around to a small number.

@@ -1,4 +1,5 @@
-//! Demand 3's parts, looked for in the tables that an accepted event leaves. Knows neither implementation.
+//! Demand 3's parts, and the level that each log entry gives, looked for in the tables that an accepted event leaves.
+//! Knows neither implementation.
 
 use binding::{Event, Tables, TASKS};
 
@@ -17,6 +18,7 @@ struct Move {
     task: usize,
     from: usize,
     to: usize,
+    displaced: u16,
 }
 
 /// The first part that fails, in words.
@@ -24,20 +26,24 @@ pub fn check(before: &Before, e: Event, moves: u32, after: &Tables) -> Result<()
     if moves as usize >= after.n {
         return Err(format!("{moves} migrations on {} CPUs", after.n));
     }
-    let log: Vec<Move> = (0..moves as usize).map(|i| entry(after, i)).collect();
+    let log: Vec<Move> = after.moves(moves).map(Move::from).collect();
     entries_sound(&log, before, e, after)?;
     no_two(&log, "receives two tasks: CPU", |m| m.to)?;
     no_two(&log, "moves twice: task", |m| m.task)?;
     priorities_never_rise(&log, after)?;
+    levels_before(&log, after)?;
     each_stands_once(after)?;
     nobody_outranks(after)
 }
 
-fn entry(t: &Tables, i: usize) -> Move {
-    Move {
-        task: t.log[3 * i] as usize,
-        from: t.log[3 * i + 1] as usize,
-        to: t.log[3 * i + 2] as usize,
+impl From<binding::Move> for Move {
+    fn from(entry: binding::Move) -> Move {
+        Move {
+            task: entry.task.into(),
+            from: entry.from.into(),
+            to: entry.to.into(),
+            displaced: entry.displaced,
+        }
     }
 }
 
@@ -87,6 +93,34 @@ fn priorities_never_rise(log: &[Move], after: &Tables) -> Result<(), String> {
     {
         Some(i) => Err(format!("the mover's priority rises after log entry {i}")),
         None => Ok(()),
+    }
+}
+
+/// "Each log entry shall also give the level of the destination before the move."
+fn levels_before(log: &[Move], after: &Tables) -> Result<(), String> {
+    for (i, m) in log.iter().enumerate() {
+        let due = level_before(log, m, after);
+        if m.displaced != due {
+            return Err(format!(
+                "log entry {i} gives level {}, and CPU {} was at {due}",
+                m.displaced, m.to
+            ));
+        }
+    }
+    Ok(())
+}
+
+/// The level of a move's destination before it. No other task came there by a move, and who ran there can only have
+/// left after it: so it is the highest of those who are there at the end, without the mover, or have left by a move.
+fn level_before(log: &[Move], m: &Move, after: &Tables) -> u16 {
+    let stayed = after.row(m.to).iter().map(|&task| task as usize);
+    let left = log.iter().filter(|other| other.from == m.to);
+    let others = stayed
+        .filter(|&task| task != m.task)
+        .chain(left.map(|other| other.task));
+    match others.map(|task| after.prio[task]).max() {
+        Some(highest) => u16::from(highest) + 2,
+        None => u16::from(after.flags[m.to]),
     }
 }
 

@@ -1,7 +1,8 @@
 //! What was found to be wrong after a call.
 
 use crate::call::Answer;
-use crate::tables::NAMES;
+use crate::tables::{LOG, NAMES};
+use binding::LOG_WIDTH;
 use std::fmt;
 
 #[derive(Clone, Debug, PartialEq, Eq)]
@@ -35,11 +36,8 @@ impl fmt::Display for Difference {
                 ours,
                 theirs,
             } => {
-                let name = NAMES[*table];
-                write!(
-                    f,
-                    "{name}[{index}] differs: ours {ours:#x}, theirs {theirs:#x}"
-                )
+                let place = place(*table, *index);
+                write!(f, "{place} differs: ours {ours:#x}, theirs {theirs:#x}")
             }
             Difference::Table {
                 table,
@@ -58,5 +56,46 @@ impl fmt::Display for Difference {
                 write!(f, "inner event, settled = {settled}: {difference}")
             }
         }
+    }
+}
+
+/// The numbers of a log entry, in words.
+const ENTRY: [&str; LOG_WIDTH] = ["task", "from", "to", "displaced level"];
+
+/// A place of a table; in the log, also which number of which entry it is.
+fn place(table: usize, index: usize) -> String {
+    let place = format!("{}[{index}]", NAMES[table]);
+    match table {
+        LOG => {
+            let (entry, number) = (index / LOG_WIDTH, ENTRY[index % LOG_WIDTH]);
+            format!("{place} (entry {entry}, {number})")
+        }
+        _ => place,
+    }
+}
+
+#[cfg(test)]
+mod tests {
+    use super::*;
+
+    #[test]
+    fn a_place_of_the_log_has_its_entry() {
+        let words = |table, index| {
+            let difference = Difference::Table {
+                table,
+                index: Some(index),
+                ours: 22,
+                theirs: 12,
+            };
+            difference.to_string()
+        };
+        let differs = "differs: ours 0x16, theirs 0xc";
+        assert_eq!(words(LOG, 0), format!("log[0] (entry 0, task) {differs}"));
+        assert_eq!(words(LOG, 5), format!("log[5] (entry 1, from) {differs}"));
+        assert_eq!(
+            words(LOG, 251),
+            format!("log[251] (entry 62, displaced level) {differs}")
+        );
+        assert_eq!(words(13, 63), format!("levels[63] {differs}"));
     }
 }

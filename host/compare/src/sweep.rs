@@ -4,7 +4,7 @@
 use crate::call::Call;
 use crate::case::{Case, Failure};
 use crate::counters::Counters;
-use crate::damage::Damage;
+use crate::damage::{three_of_four, Damage};
 use crate::damaged::origin;
 use crate::events;
 use crate::generate::Style;
@@ -62,6 +62,7 @@ fn wrong_sizes() -> Vec<(Plan, Damage)> {
                 right - 1,
                 right + 1,
                 right / 2,
+                three_of_four(right),
                 2 * right,
                 right + 512,
             ];

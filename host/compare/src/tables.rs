@@ -4,6 +4,9 @@ use binding::Tables;
 
 pub const COUNT: usize = 14;
 
+/// The number of the log.
+pub const LOG: usize = 9;
+
 pub const NAMES: [&str; COUNT] = [
     "state",
     "policy",

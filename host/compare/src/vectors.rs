@@ -1,4 +1,5 @@
-//! K1 to K12 of the paper, with the paper's numbers, on our library and on the reference.
+//! K1 to K12 of the paper, with the paper's numbers, on our library and on the reference. A log entry is (task, from, to,
+//! level of the destination before the move).
 
 use crate::pair::for_reference_event;
 use crate::tables::{for_reference, from_reference};
@@ -21,7 +22,7 @@ enum Step {
     Levels(&'static [u8]),
     Cpus(&'static [u8]),
     /// The log of the last event, which says its number of moves too.
-    Log(&'static [u16]),
+    Log(&'static [[u16; 4]]),
     /// A task's slice.
     Slice(usize, u16),
 }
@@ -73,7 +74,7 @@ fn k2() -> Vec<Step> {
         add(1, 40, 3),
         wake(1),
         wake(0),
-        Log(&[1, 0, 1]),
+        Log(&[[1, 0, 1, 0]]),
         Rows(&[&[0], &[1]]),
         Levels(&[52, 42]),
     ]
@@ -103,7 +104,7 @@ fn k5() -> Vec<Step> {
         Log(&[]),
         Rows(&[&[0], &[1], &[2]]),
         wake(3),
-        Log(&[0, 0, 1, 1, 1, 2]),
+        Log(&[[0, 0, 1, 22], [1, 1, 2, 12]]),
         Rows(&[&[3], &[0], &[1, 2]]),
         Levels(&[42, 32, 22]),
         Cpus(&[1, 2, 2, 0]),
@@ -129,7 +130,7 @@ fn k7() -> Vec<Step> {
         wake(0),
         wake(1),
         wake(2),
-        Log(&[2, 0, 1]),
+        Log(&[[2, 0, 1, 0]]),
         Rows(&[&[0, 1], &[2]]),
     ]
 }
@@ -138,7 +139,7 @@ fn k8() -> Vec<Step> {
     let more = vec![
         Do(event(6, 0, 0, 0, 2), 0),
         Rows(&[&[1], &[0]]),
-        Log(&[1, 1, 0]),
+        Log(&[[1, 1, 0, 0]]),
     ];
     then(k2(), more)
 }
@@ -171,7 +172,7 @@ fn k10() -> Vec<Step> {
         wake(0),
         Cpus(&[0]),
         wake(1),
-        Log(&[1, 0, 2]),
+        Log(&[[1, 0, 2, 0]]),
         Rows(&[&[0], &[], &[1]]),
     ]
 }
@@ -269,8 +270,9 @@ impl Run {
             Levels(levels) => same("levels", &self.t.levels[..levels.len()], levels),
             Cpus(cpus) => same("CPUs of tasks", &self.t.cpu[..cpus.len()], cpus),
             Log(log) => {
-                same("number of moves", self.moves as usize, log.len() / 3)?;
-                same("log", &self.t.log[..log.len()], log)
+                same("number of moves", self.moves as usize, log.len())?;
+                let log = log.concat();
+                same("log", &self.t.log[..log.len()], &log)
             }
             Slice(task, slice) => same("slice", self.t.slice[task], slice),
         }

@@ -1,4 +1,4 @@
-//! The check of demand 3 passes K5's last event and fails each part when that part is spoiled.
+//! The check of demand 3 and of the log's levels passes K5's last event and fails each part when that part is spoiled.
 
 use binding::{Event, Tables};
 use compare::demand3::{check, Before};
@@ -21,7 +21,7 @@ const WAKE_3: Event = Event {
     mask: 0,
 };
 
-/// K5 up to the wake of task 3, what was before it, and the tables after.
+/// K5 up to the wake of task 3, what was before it, and the tables after: the log is (0,0,1,22), (1,1,2,12).
 fn k5() -> (Before, Tables) {
     let mut t = Tables::fresh(3).expect("3 CPUs");
     for (who, prio, mask) in [(0, 30, 3), (1, 20, 6), (2, 10, 4), (3, 40, 1)] {
@@ -56,11 +56,11 @@ fn as_many_migrations_as_cpus() {
 #[test]
 fn a_count_that_is_not_the_log() {
     assert!(says(1, |_| ()).contains("without a log entry"));
-    let wrong_to = says(2, |t| t.log[5] = 0);
+    let wrong_to = says(2, |t| t.log[6] = 0);
     assert!(wrong_to.contains("not where the log says it went"));
-    let wrong_from = says(2, |t| t.log[4] = 0);
+    let wrong_from = says(2, |t| t.log[5] = 0);
     assert!(wrong_from.contains("not where the log says it waited"));
-    assert!(says(2, |t| t.log[3] = 65535).contains("no move"));
+    assert!(says(2, |t| t.log[4] = 65535).contains("no move"));
 }
 
 #[test]
@@ -76,7 +76,7 @@ fn a_cpu_that_receives_two() {
 fn a_task_that_moves_twice() {
     // Task 3 is the event's own, so where it waited is not known: only the double entry is wrong.
     let (before, mut t) = k5();
-    t.log[..6].copy_from_slice(&[3, 1, 0, 3, 0, 2]);
+    t.log[..8].copy_from_slice(&[3, 1, 0, 0, 3, 0, 2, 0]);
     t.cpu[0] = 0;
     t.cpu[1] = 1;
     let said = check(&before, WAKE_3, 2, &t).expect_err("spoiled");
@@ -86,6 +86,44 @@ fn a_task_that_moves_twice() {
 #[test]
 fn a_priority_that_rises() {
     assert!(says(2, |t| t.prio[1] = 31).contains("rises after log entry 0"));
+}
+
+/// Among them the level after the move, and the origin's. Who ran on CPU 1 has moved on, and who ran on CPU 2 waits there.
+#[test]
+fn a_level_that_is_not_the_one_before_the_move() {
+    for level in [0, 21, 23, 32, 42, 65535] {
+        let said = says(2, |t| t.log[3] = level);
+        let words = format!("log entry 0 gives level {level}, and CPU 1 was at 22");
+        assert_eq!(said, words);
+    }
+    for level in [0, 11, 13, 22, 32, 65535] {
+        let said = says(2, |t| t.log[7] = level);
+        let words = format!("log entry 1 gives level {level}, and CPU 2 was at 12");
+        assert_eq!(said, words);
+    }
+}
+
+/// Of a CPU without a real-time task the flag is the level.
+#[test]
+fn a_level_without_a_task() {
+    for flag in [0, 1] {
+        let mut t = Tables::fresh(2).expect("2 CPUs");
+        for e in [
+            event(9, 1, 0, flag, 0),
+            event(1, 0, 1, 50, 1),
+            event(1, 1, 1, 40, 3),
+            event(3, 0, 0, 0, 0),
+        ] {
+            assert_eq!(t.event(e).answer, 0);
+        }
+        let before = Before::of(&t);
+        let wake = event(3, 1, 0, 0, 0);
+        assert_eq!(t.event(wake).moves, 1);
+        assert_eq!(check(&before, wake, 1, &t), Ok(()));
+        t.log[3] = 1 - flag as u16;
+        let said = check(&before, wake, 1, &t).expect_err("spoiled");
+        assert!(said.ends_with(&format!("CPU 1 was at {flag}")), "{said}");
+    }
 }
 
 #[test]

@@ -3,6 +3,8 @@
 use compare::mutants::survives;
 use compare::vectors::{wrong, Side};
 use reference::Mutant;
+use std::fs;
+use std::path::Path;
 
 #[test]
 fn no_error_survives() {
@@ -20,4 +22,29 @@ fn marked_examples_show_the_easy_errors() {
     assert!(shown(Mutant::EqualOutranks).contains("K3 "));
     assert!(shown(Mutant::FirstCpuBelow).contains("K10 "));
     assert!(shown(Mutant::OnlyFirstWaiter).contains("K7 "));
+}
+
+/// The errors about the fourth number of a log entry show in K2, and a wrong place of the second entry in K5.
+#[test]
+fn marked_examples_show_the_errors_of_the_log() {
+    let shown = |mutant| wrong(Side::Theirs(mutant)).join(" ");
+    for mutant in [
+        Mutant::LogLevelAfterMove,
+        Mutant::LogLevelOfOrigin,
+        Mutant::LogLevelUnwritten,
+    ] {
+        assert!(shown(mutant).contains("K2 log: [1, 0, 1, "), "{mutant:?}");
+    }
+    assert!(shown(Mutant::LogWidthThree).starts_with("K5 log: [0, 0, 1, 1, "));
+}
+
+/// The two pages that say how many errors there are.
+#[test]
+fn the_pages_count_the_errors() {
+    let count = format!(" {} known errors ", Mutant::ALL.len());
+    for page in ["../README.md", "../../README.md"] {
+        let path = Path::new(env!("CARGO_MANIFEST_DIR")).join(page);
+        let text = fs::read_to_string(path).expect(page);
+        assert!(text.contains(&count), "{page} has no '{count}'");
+    }
 }

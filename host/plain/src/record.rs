@@ -33,19 +33,23 @@ impl Record {
         record
     }
 
-    /// Moves a CPU to another level.
-    pub fn set_level(&mut self, cpu: usize, level: u8) {
-        self.leave(cpu);
+    /// Moves a CPU to another level. The level before.
+    pub fn set_level(&mut self, cpu: usize, level: u8) -> u8 {
+        let before = self.leave(cpu);
         self.enter(cpu, level);
+        before
     }
 
-    fn leave(&mut self, cpu: usize) {
-        let level = self.levels[cpu] as usize;
-        self.masks[level] &= !(1 << cpu);
-        self.counts[level] -= 1;
-        if self.counts[level] == 0 {
-            self.words[level / 64] &= !(1 << (level % 64));
+    /// The CPU leaves its level: which it is.
+    fn leave(&mut self, cpu: usize) -> u8 {
+        let level = self.levels[cpu];
+        let l = level as usize;
+        self.masks[l] &= !(1 << cpu);
+        self.counts[l] -= 1;
+        if self.counts[l] == 0 {
+            self.words[l / 64] &= !(1 << (l % 64));
         }
+        level
     }
 
     fn enter(&mut self, cpu: usize, level: u8) {

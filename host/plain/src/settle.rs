@@ -89,8 +89,6 @@ fn take(t: &mut Lent, record: &mut Record, step: Step, moves: usize) -> u16 {
         origin,
         target,
     } = step;
-    let entry = [task, origin.into(), target.into()];
-    t.log[3 * moves..][..3].copy_from_slice(&entry);
     let (from, to) = (origin as usize, target as usize);
     row::remove(&mut t.rows[from], t.counts[from] as usize, task);
     t.counts[from] -= 1;
@@ -99,7 +97,8 @@ fn take(t: &mut Lent, record: &mut Record, step: Step, moves: usize) -> u16 {
     row::put(row, 0, t.counts[to] as usize, task);
     t.counts[to] += 1;
     t.cpu[task as usize] = target;
-    record.set_level(to, level_of(t.prio[task as usize]));
+    let before = record.set_level(to, level_of(t.prio[task as usize]));
+    t.log[moves] = [task, origin.into(), target.into(), before.into()];
     displaced
 }
 

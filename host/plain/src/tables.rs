@@ -3,8 +3,9 @@
 use crate::record::{Record, CPUS};
 
 pub const TASKS: usize = 512;
-/// 63 entries of a task, where it came from and where it went.
-pub const LOG: usize = 189;
+/// Entries of the log, and the numbers of one.
+pub const ENTRIES: usize = 63;
+pub const ENTRY: usize = 4;
 /// An unused place of a row, and each number of a fresh log.
 pub const NOTHING: u16 = 65535;
 
@@ -16,6 +17,9 @@ pub const FULL_SLICE: u16 = 100;
 
 /// The places of one CPU: who runs, who waits, and 65535 in the rest.
 pub type Row = [u16; TASKS];
+
+/// A move in the log: the task, where it came from, where it went, and that CPU's level before.
+pub type Entry = [u16; ENTRY];
 
 /// Tables of any length.
 #[derive(Clone, Debug, PartialEq, Eq)]
@@ -30,7 +34,7 @@ pub struct Tables {
     pub rows: Vec<Row>,
     pub counts: Vec<u16>,
     pub flags: Vec<u8>,
-    pub log: Vec<u16>,
+    pub log: Vec<Entry>,
 }
 
 /// The same tables, lent with the lengths that n CPUs ask for: there are n rows, counts and flags.
@@ -45,7 +49,7 @@ pub struct Lent<'a> {
     pub rows: &'a mut [Row],
     pub counts: &'a mut [u16],
     pub flags: &'a mut [u8],
-    pub log: &'a mut [u16; LOG],
+    pub log: &'a mut [Entry; ENTRIES],
 }
 
 impl Tables {
@@ -55,7 +59,7 @@ impl Tables {
             && [self.state.len(), self.policy.len(), self.prio.len()] == [TASKS; 3]
             && [self.cpu.len(), self.slice.len(), self.mask.len()] == [TASKS; 3]
             && [self.rows.len(), self.counts.len(), self.flags.len()] == [self.n; 3]
-            && self.log.len() == LOG
+            && self.log.len() == ENTRIES
     }
 
     /// Lends the tables, if their lengths fit.
@@ -91,7 +95,7 @@ impl Tables {
         t.rows.fill([NOTHING; TASKS]);
         t.counts.fill(0);
         t.flags.fill(0);
-        t.log.fill(NOTHING);
+        t.log.fill([NOTHING; ENTRY]);
         *record = Record::fresh(t.n);
         0
     }

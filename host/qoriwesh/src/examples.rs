@@ -148,7 +148,7 @@ mod tests {
     fn a_value_that_differs_is_told() {
         let wrong: [&'static [Fact]; 9] = [
             &[Moves(1)],
-            &[Log(&[(0, 0, 1)])],
+            &[Log(&[[0, 0, 1, 0]])],
             &[Moved { task: 0, to: 1 }],
             &[Rows(&[&[1]])],
             &[Counts(&[2])],
@@ -169,8 +169,23 @@ mod tests {
         assert!(!text.contains("as document 01"), "{text}");
     }
 
+    /// The level in a log entry, if nothing else is wrong. K2 has 0.
+    #[test]
+    fn a_level_that_differs_is_told() {
+        let parts = EXAMPLES[1].parts;
+        let (text, agrees) = part(Part(parts[0].0, &[Log(&[[1, 0, 1, 1]])]));
+        assert!(!agrees);
+        assert!(
+            text.contains("DIFFERS: log (1,0,1,0) instead of log (1,0,1,1)"),
+            "{text}"
+        );
+    }
+
     fn differing(facts: &'static [Fact]) -> (String, bool) {
-        let part = Part("cpus 1\nadd 0 fifo 50 0\nwake 0", facts);
+        part(Part("cpus 1\nadd 0 fifo 50 0\nwake 0", facts))
+    }
+
+    fn part(part: Part) -> (String, bool) {
         told(&Example {
             name: "K1",
             title: "wrong",

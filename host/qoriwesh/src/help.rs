@@ -27,7 +27,8 @@ pub const EXAMPLES: &str = "\
 usage: qoriwesh examples [NAME ...]
 
 Runs the marked examples of document 01, or those named (K5 or k5), step by step
-through the library, and compares each value that document 01 gives.
+through the library, and compares each value that document 01 gives. The fourth
+numbers of log entries are those of document 02, request L2.
 
 exit status: 0 if all are as document 01 says, 1 if one differs, 2 on an error.
 ";

@@ -1,4 +1,5 @@
-//! The marked examples of document 01: events in the language of `explain`, and the values that it gives.
+//! The marked examples of document 01: events in the language of `explain`, and the values that it gives. The fourth
+//! numbers of the log are those of document 02, request L2.
 
 use crate::show::Step;
 use crate::{render, words};
@@ -8,11 +9,11 @@ use binding::Tables;
 pub enum Fact {
     /// The number of moves of the last event.
     Moves(u64),
-    /// All moves of the last event: task, from, to.
-    Log(&'static [(u16, usize, usize)]),
+    /// All moves of the last event: task, from, to, and the level of `to` before.
+    Log(&'static [[u16; 4]]),
     Moved {
         task: u16,
-        to: usize,
+        to: u16,
     },
     Rows(&'static [&'static [u16]]),
     Counts(&'static [u16]),
@@ -59,7 +60,7 @@ pub const EXAMPLES: &[Example] = &[
         after: None,
         parts: &[Part(
             "cpus 2\nadd 0 fifo 50 0-1\nadd 1 fifo 40 0-1\nwake 1\nwake 0",
-            &[Log(&[(1, 0, 1)]), Rows(&[&[0], &[1]]), Levels(&[52, 42])],
+            &[Log(&[[1, 0, 1, 0]]), Rows(&[&[0], &[1]]), Levels(&[52, 42])],
         )],
     },
     Example {
@@ -92,7 +93,7 @@ pub const EXAMPLES: &[Example] = &[
                 "wake 3",
                 &[
                     Moves(2),
-                    Log(&[(0, 0, 1), (1, 1, 2)]),
+                    Log(&[[0, 0, 1, 22], [1, 1, 2, 12]]),
                     Rows(&[&[3], &[0], &[1, 2]]),
                     Counts(&[1, 1, 2]),
                     Levels(&[42, 32, 22]),
@@ -122,7 +123,7 @@ pub const EXAMPLES: &[Example] = &[
         after: Some("K2"),
         parts: &[Part(
             "affinity 0 1",
-            &[Rows(&[&[1], &[0]]), Log(&[(1, 1, 0)])],
+            &[Rows(&[&[1], &[0]]), Log(&[[1, 1, 0, 0]])],
         )],
     },
     Example {
@@ -205,7 +206,10 @@ impl Fact {
     pub fn found(&self, t: &Tables, last: &Step) -> String {
         match self {
             Moves(_) => words::moves(last.moves.len() as u64),
-            Log(_) => log(last.moves.iter().map(|m| (m.task, m.from, m.to))),
+            Log(_) => log(last
+                .moves
+                .iter()
+                .map(|m| [m.task, m.from, m.to, m.displaced])),
             Moved { task, .. } => match last.moves.iter().find(|m| m.task == *task) {
                 Some(m) => format!("task {task} moves to CPU {}", m.to),
                 None => format!("task {task} does not move"),
@@ -224,10 +228,9 @@ impl Fact {
     }
 }
 
-fn log(entries: impl Iterator<Item = (u16, usize, usize)>) -> String {
-    let entries: Vec<String> = entries
-        .map(|(task, from, to)| format!("({task},{from},{to})"))
-        .collect();
+fn log(entries: impl Iterator<Item = [u16; 4]>) -> String {
+    let entry = |numbers: [u16; 4]| format!("({})", numbers.map(|n| n.to_string()).join(","));
+    let entries: Vec<String> = entries.map(entry).collect();
     format!("log {}", entries.join(" "))
 }
 

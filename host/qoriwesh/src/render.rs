@@ -1,6 +1,6 @@
 //! Rows, levels and moves as aligned lines of at most 80 columns.
 
-use crate::reasons::{Displaced, Move};
+use crate::log::Move;
 use binding::Tables;
 
 /// Columns of a line, at most.
@@ -98,7 +98,7 @@ pub fn moves(moves: &[Move]) -> Vec<String> {
             format!("task {} ({})", m.task, m.prio),
             format!("CPU {} -> {}", m.from, m.to),
             over(m.displaced),
-            format!("level {} -> {}", m.displaced.level(), m.prio + 2),
+            format!("level {} -> {}", m.displaced, m.prio + 2),
         ]
     };
     let rows: Vec<[String; 5]> = moves.iter().enumerate().map(row).collect();
@@ -116,11 +116,12 @@ pub fn moves(moves: &[Move]) -> Vec<String> {
     rows.iter().map(aligned).collect()
 }
 
-fn over(displaced: Displaced) -> String {
-    match displaced {
-        Displaced::Idle => "which was idle".to_string(),
-        Displaced::Ordinary => "over ordinary work".to_string(),
-        Displaced::Task { task, prio } => format!("over task {task} ({prio})"),
+/// What a CPU of this level did.
+fn over(level: u16) -> String {
+    match level {
+        0 => "which was idle".to_string(),
+        1 => "over ordinary work".to_string(),
+        _ => format!("over priority {}", level - 2),
     }
 }
 
@@ -234,16 +235,37 @@ mod tests {
     }
 
     #[test]
+    fn moves_say_what_they_displaced() {
+        let shown = |task, prio, from, to, displaced| Move {
+            task,
+            prio,
+            from,
+            to,
+            displaced,
+        };
+        let lines = moves(&[
+            shown(511, 99, 63, 2, 100),
+            shown(0, 30, 0, 1, 3),
+            shown(7, 9, 10, 0, 1),
+            shown(12, 1, 1, 3, 0),
+        ]);
+        let expected = [
+            "move 1  task 511 (99)  CPU 63 -> 2  over priority 98    level 100 -> 101",
+            "move 2  task 0 (30)    CPU 0 -> 1   over priority 1     level 3 -> 32",
+            "move 3  task 7 (9)     CPU 10 -> 0  over ordinary work  level 1 -> 11",
+            "move 4  task 12 (1)    CPU 1 -> 3   which was idle      level 0 -> 3",
+        ];
+        assert_eq!(lines, expected);
+    }
+
+    #[test]
     fn the_widest_moves_fit_a_line() {
         let widest = Move {
             task: 511,
             prio: 99,
             from: 63,
             to: 62,
-            displaced: Displaced::Task {
-                task: 510,
-                prio: 98,
-            },
+            displaced: 100,
         };
         for line in moves(&[widest; 63]) {
             assert!(line.len() + 6 <= WIDTH, "{line}");

@@ -1,8 +1,8 @@
 //! Runs actions on a machine and shows what each did.
 
 use crate::cycle::Cycle;
+use crate::log::{self, Move};
 use crate::parse::Action;
-use crate::reasons::{self, Move};
 use crate::{render, words};
 use binding::{Event, Outcome, Tables};
 use std::io::{self, Write};
@@ -249,11 +249,11 @@ impl<'a> Show<'a> {
     }
 }
 
-/// The outcome with the reasons of its moves. That a refusal changes nothing is looked at.
+/// The outcome with its moves. That a refusal changes nothing is looked at.
 fn judged(before: &Tables, e: Event, after: &Tables, outcome: Outcome) -> Result<Step, String> {
     let Outcome { answer, moves } = outcome;
     if answer == 0 {
-        let moves = reasons::moves(before, e, after, moves)?;
+        let moves = log::moves(after, moves)?;
         return Ok(Step { answer, moves });
     }
     if before != after || moves != 0 {
@@ -306,7 +306,7 @@ mod tests {
         );
         assert!(text.contains("tick on CPU 0, 99 times"), "{text}");
         assert!(
-            text.contains("move 1  task 0 (9)  CPU 0 -> 1  over task 2 (5)"),
+            text.contains("move 1  task 0 (9)  CPU 0 -> 1  over priority 5  level 7 -> 11"),
             "{text}"
         );
         assert!(text.contains("tick on CPU 0, 5 times"), "{text}");

@@ -6,7 +6,7 @@ use crate::migrate::{self, settle, Step};
 use crate::mutant::Mutant;
 use crate::record::Record;
 use crate::refuse::refusal;
-use crate::tables::{mask_right, Event, Tables, INVALID, NOTHING};
+use crate::tables::{mask_right, Event, Tables, ENTRY, INVALID, NOTHING};
 use crate::wellformed::well_formed;
 
 /// "Accepted is 0 with the number of moves [...] A refusal reports 0 moves"
@@ -78,19 +78,33 @@ pub fn settled(t: &Tables) -> bool {
     migrate::settled(&Machine::read(t))
 }
 
-/// "Step i, from 0, is entry i of the log: its mover, the CPU it waited on, its destination."
-/// "log entries from that number on stay as they were"
+/// "Step i, from 0, is entry i of the log"; "log entries from that number on stay as they were"
 fn write_log(t: &mut Tables, steps: &[Step], m: Mutant) {
     if m == Mutant::LogWiped {
         t.log.fill(NOTHING);
     }
     for (i, step) in steps.iter().enumerate() {
-        let (from, to) = match m {
-            Mutant::LogSwapped => (step.to, step.from),
-            _ => (step.from, step.to),
+        let start = match m {
+            Mutant::LogWidthThree => 3 * i,
+            _ => ENTRY * i,
         };
-        t.log[3 * i..3 * i + 3].copy_from_slice(&[step.task, from as u16, to as u16]);
+        let numbers = entry(step, m);
+        let written = match m {
+            Mutant::LogLevelUnwritten => &numbers[..3],
+            _ => &numbers[..],
+        };
+        t.log[start..start + written.len()].copy_from_slice(written);
     }
+}
+
+/// "its mover, the CPU it waited on, its destination"; "Each log entry shall also give the level of the destination
+/// before the move."
+fn entry(step: &Step, m: Mutant) -> [u16; ENTRY] {
+    let (from, to) = match m {
+        Mutant::LogSwapped => (step.to, step.from),
+        _ => (step.from, step.to),
+    };
+    [step.task, from as u16, to as u16, u16::from(step.level)]
 }
 
 /// The errors of a record that is not kept up to date. The paper's behaviour is to do nothing here.

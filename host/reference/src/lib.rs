@@ -1,4 +1,4 @@
-//! A second scheduler, written from the paper alone, to compare the proved library with.
+//! A second scheduler, written from the papers alone, to compare the proved library with.
 //!
 //! It has another shape: tasks are a map, and a task remembers when it came to its row. Rows, levels and the
 //! record are worked out from the tasks each time they are asked for. Nothing is kept up to date.

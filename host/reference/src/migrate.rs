@@ -2,7 +2,7 @@
 
 use crate::machine::{level_of_prio, Machine};
 use crate::mutant::Mutant;
-use crate::tables::cpus_of;
+use crate::tables::{cpus_of, ENTRIES};
 use std::cmp::Reverse;
 
 #[derive(Clone, Copy, Debug, PartialEq, Eq)]
@@ -10,20 +10,25 @@ pub(crate) struct Step {
     pub task: u16,
     pub from: usize,
     pub to: usize,
+    /// "the level of the destination before the move"
+    pub level: u8,
 }
 
 /// "Then migration steps are taken until none applies." The steps, in order.
 pub(crate) fn settle(machine: &mut Machine, m: Mutant) -> Vec<Step> {
     let mut steps = Vec::new();
-    while let Some(step) = next_step(machine, m) {
+    while let Some(mut step) = next_step(machine, m) {
         if m == Mutant::OneStepOnly && steps.len() == 1 {
             break;
         }
-        if steps.len() == 63 {
+        if steps.len() == ENTRIES {
             assert!(m != Mutant::None, "more steps than the log has entries");
             break;
         }
         take(machine, step, m);
+        if m == Mutant::LogLevelAfterMove {
+            step.level = machine.levels(&machine.rows(), m)[step.to];
+        }
         steps.push(step);
     }
     steps
@@ -59,7 +64,16 @@ fn next_step(machine: &Machine, m: Mutant) -> Option<Step> {
     }
     let (_, task, from) = movable.into_iter().min()?;
     let to = destination(&levels, below(machine, &levels, task, from, m), m);
-    Some(Step { task, from, to })
+    let level = match m {
+        Mutant::LogLevelOfOrigin => levels[from],
+        _ => levels[to],
+    };
+    Some(Step {
+        task,
+        from,
+        to,
+        level,
+    })
 }
 
 /// The smallest is the mover.

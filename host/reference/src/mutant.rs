@@ -48,8 +48,16 @@ mutants! {
     OneStepOnly,
     /// no migration after an event without effect of its own
     NoStepAfterNothing,
-    /// a log entry is (task, to, from)
+    /// a log entry is (task, to, from, level)
     LogSwapped,
+    /// a log entry gives the destination's level after the move
+    LogLevelAfterMove,
+    /// a log entry gives the level of the CPU that the mover waited on
+    LogLevelOfOrigin,
+    /// a log entry has three numbers, and the place of the fourth stays as it was
+    LogLevelUnwritten,
+    /// log entry i starts at place 3 times i
+    LogWidthThree,
     /// log entries from the count on are wiped
     LogWiped,
     /// a mover gets a full slice

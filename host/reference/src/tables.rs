@@ -4,7 +4,11 @@ pub const TASKS: usize = 512;
 pub const CPUS: usize = 64;
 pub const LEVELS: usize = 102;
 pub const WORDS: usize = 2;
-pub const LOG: usize = 189;
+/// "63 entries of four"
+pub const ENTRIES: usize = 63;
+pub const ENTRY: usize = 4;
+/// "The log becomes 252 numbers"
+pub const LOG: usize = ENTRIES * ENTRY;
 /// "unused places hold 65535"
 pub const NOTHING: u16 = 65535;
 /// "INVALID is 255, held by CPU places N and up, in no mask."
@@ -90,7 +94,7 @@ impl Tables {
             && self.rows.len() == 512 * self.n
             && self.counts.len() == self.n
             && self.flags.len() == self.n
-            && self.log.len() == 189
+            && self.log.len() == LOG
             && self.record_sizes_right()
     }
 

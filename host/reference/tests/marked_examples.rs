@@ -1,4 +1,5 @@
-//! K1 to K12 of the paper on the reference alone.
+//! K1 to K12 of the paper on the reference alone, and the sentences of request L2, "Say what was displaced": with it "K2,
+//! K5, K8 follow (the fourth numbers are 0; 22 and 12; 0)", and so do the moves of K7 and K10, to idle CPUs.
 
 use reference::{check, event, find, make_fresh, Event, Mutant, Tables};
 
@@ -49,8 +50,9 @@ impl Run {
         (0..self.t.n).map(row).collect()
     }
 
+    /// "63 entries of four": those of the last event.
     fn log(&self) -> &[u16] {
-        &self.t.log[..3 * self.moves as usize]
+        &self.t.log[..4 * self.moves as usize]
     }
 }
 
@@ -88,7 +90,7 @@ fn k1_one_task_runs() {
 #[test]
 fn k2_the_lower_moves_away() {
     let run = k2();
-    assert_eq!(run.log(), [1, 0, 1]);
+    assert_eq!(run.log(), [1, 0, 1, 0]);
     assert_eq!(run.rows(), [[0], [1]]);
     assert_eq!(run.t.levels[..2], [52, 42]);
 }
@@ -112,7 +114,7 @@ fn k4_the_waiter_runs_after_a_sleep() {
 fn k5_a_chain_of_two() {
     let run = k5();
     assert_eq!(run.moves, 2);
-    assert_eq!(run.log(), [0, 0, 1, 1, 1, 2]);
+    assert_eq!(run.log(), [0, 0, 1, 22, 1, 1, 2, 12]);
     assert_eq!(run.rows(), [vec![3], vec![0], vec![1, 2]]);
     assert_eq!(run.t.counts, [1, 1, 2]);
     assert_eq!(run.t.levels[..3], [42, 32, 22]);
@@ -133,7 +135,7 @@ fn k7_past_a_pinned_waiter() {
     let mut run = Run::fresh(2);
     run.add(0, 60, 1).add(1, 50, 1).add(2, 40, 3);
     run.wake(0).wake(1).wake(2);
-    assert_eq!(run.log(), [2, 0, 1]);
+    assert_eq!(run.log(), [2, 0, 1, 0]);
     assert_eq!(run.rows(), [vec![0, 1], vec![2]]);
 }
 
@@ -142,7 +144,7 @@ fn k8_a_mask_without_the_cpu() {
     let mut run = k2();
     run.does(6, 0, 0, 0, 2);
     assert_eq!(run.rows(), [[1], [0]]);
-    assert_eq!(run.log(), [1, 1, 0]);
+    assert_eq!(run.log(), [1, 1, 0, 0]);
 }
 
 #[test]
@@ -165,7 +167,7 @@ fn k10_idle_before_ordinary() {
     let mut run = Run::fresh(3);
     run.does(9, 1, 0, 1, 0).add(0, 50, 7).add(1, 40, 7);
     run.wake(0).wake(1);
-    assert_eq!(run.log(), [1, 0, 2]);
+    assert_eq!(run.log(), [1, 0, 2, 0]);
     assert_eq!(run.rows(), [vec![0], vec![], vec![1]]);
     assert_eq!(run.t.levels[..3], [52, 1, 42]);
 }
@@ -214,4 +216,80 @@ fn the_finder_answers_the_lowest_level_below() {
     assert_eq!(ask(102, 7), (7, 255, 0));
     assert_eq!(ask(101, 8), (8, 255, 0));
     assert_eq!(ask(101, 0), (8, 255, 0));
+}
+
+/// "Each log entry shall also give the level of the destination before the move": 1 is ordinary work.
+#[test]
+fn l2_over_ordinary_work() {
+    let mut run = Run::fresh(2);
+    run.does(9, 1, 0, 1, 0).add(0, 50, 3).add(1, 40, 3);
+    run.wake(0).wake(1);
+    assert_eq!(run.log(), [1, 0, 1, 1]);
+}
+
+/// "the level of the destination before the move", not before the event: task 3, which goes to sleep, held CPU 1 at
+/// level 47, and task 2 is left there.
+#[test]
+fn l2_the_event_comes_before_the_move() {
+    let mut run = Run::fresh(2);
+    run.add(0, 50, 1).add(1, 40, 3).add(2, 30, 2).add(3, 45, 2);
+    run.wake(0).wake(3).wake(2).wake(1);
+    assert_eq!(run.moves, 0);
+    assert_eq!(run.t.levels[..2], [52, 47]);
+    run.does(4, 3, 0, 0, 0);
+    assert_eq!(run.log(), [1, 0, 1, 32]);
+    assert_eq!(run.t.levels[..2], [52, 42]);
+}
+
+/// "The log becomes 252 numbers, 63 entries of four": task c runs on CPU c and may use the next one too, and the highest
+/// of all takes CPU 0.
+#[test]
+fn l2_the_longest_log() {
+    let mut run = Run::fresh(64);
+    for c in 0..64 {
+        run.add(c, 95 - c, 3 << c).wake(c);
+    }
+    run.add(511, 99, 1).wake(511);
+    assert_eq!(run.moves, 63);
+    let entries = (0..63).flat_map(|c| [c, c, c + 1, 95 - (c + 1) + 2]);
+    assert_eq!(run.t.log, entries.collect::<Vec<u16>>());
+}
+
+/// "every log number is set to 65535", "log entries from that number on stay as they were"
+#[test]
+fn l2_entries_from_the_count_on_stay() {
+    let mut run = k5();
+    let rest = vec![65535; 252 - 8];
+    assert_eq!(run.t.log, [run.log(), &rest].concat());
+    let before = run.t.log.clone();
+    run.does(4, 3, 0, 0, 0);
+    assert_eq!(run.moves, 0);
+    assert_eq!(run.t.log, before);
+    run.add(4, 50, 2).wake(4);
+    assert_eq!(run.log(), [0, 1, 0, 0]);
+    assert_eq!(run.t.log[4..], before[4..]);
+}
+
+/// "The log becomes 252 numbers [...] and refusal 1 [...] follow"
+#[test]
+fn l2_a_log_of_another_length() {
+    let good = k2().t;
+    assert_eq!(good.log.len(), 252);
+    for length in [0, 63, 188, 189, 190, 251, 253, 504] {
+        let mut t = good.clone();
+        t.log.resize(length, 0);
+        let before = t.clone();
+        let sleep = Event {
+            kind: 4,
+            who: 0,
+            a: 0,
+            b: 0,
+            mask: 0,
+        };
+        let outcome = event(&mut t, sleep, Mutant::None);
+        assert_eq!((outcome.answer, outcome.moves), (1, 0), "{length}");
+        assert_eq!(check(&t, Mutant::None), 1, "{length}");
+        assert_eq!(make_fresh(&mut t, Mutant::None), 1, "{length}");
+        assert_eq!(t, before, "{length}");
+    }
 }

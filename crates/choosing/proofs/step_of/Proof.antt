@@ -30,7 +30,7 @@ mod Paths
 
 -- the step of task t from CPU o that the finder's answer gives
 abbrev stepFound : ℕ → ℕ → Found → Option Move
-stepFound t o (Cpus l k) = some (record { task = t; origin = o; target = lowest 64 k })
+stepFound t o (Cpus l k) = some (record { task = t; origin = o; target = lowest 64 k; displaced = l })
 stepFound t o Nothing = none
 stepFound t o (Refused r) = none
 
@@ -59,17 +59,18 @@ module _ (masks ps cs ms : List ℕ) (t : ℕ) (task : t ≢ nothing) where
       found = lowestLevel masks below (getD ms t 0)
 
       move : Move
-      move = record { task = t; origin = getD cs t 0; target = lowest 64 (allowedAt masks (getD ms t 0) found) }
+      move = record { task = t; origin = getD cs t 0; target = lowest 64 (allowedAt masks (getD ms t 0) found); displaced = found }
 
       go : (b : Bool) → stepFound t (getD cs t 0) (cond b (Cpus found (allowedAt masks (getD ms t 0) found)) Nothing) ≡ cond b (some move) none
       go true = refl
       go false = refl
 
   -- as a step of numbers
-  as-step : (o d : ℕ) (k : ℕ) → d ≡ lowest 64 k → stepOf (record { task = t; origin = o; target = d }) ≡ some (record { task = t; origin = o; target = lowest 64 k })
-  as-step o d k e =
-      ap (λ (b : Bool). cond b none (some (record { task = t; origin = o; target = d }))) (ne-eqb t nothing task)
-      ∙ ap (λ (x : ℕ). some (record { task = t; origin = o; target = x })) e
+  as-step : (o d l : ℕ) (k : ℕ) → d ≡ lowest 64 k
+      → stepOf (record { task = t; origin = o; target = d; displaced = l }) ≡ stepFound t o (Cpus l k)
+  as-step o d l k e =
+      ap (λ (b : Bool). cond b none (some (record { task = t; origin = o; target = d; displaced = l }))) (ne-eqb t nothing task)
+      ∙ ap (λ (x : ℕ). some (record { task = t; origin = o; target = x; displaced = l })) e
 
 -- the task is one
 module _ (c : tie.Else1) where
@@ -80,7 +81,7 @@ returns : tie.Need-returns
 returns c =
     let k = at.returns c in
     let x = k .args in
-    ap (λ (b : Bool). cond b none (some (record { task = x .task; origin = 0; target = 0 }))) (eq-eqb (x .task) nothing (k .if1 .taken))
+    ap (λ (b : Bool). cond b none (some (record { task = x .task; origin = 0; target = 0; displaced = 0 }))) (eq-eqb (x .task) nothing (k .if1 .taken))
     ∙ sym (no-step (x .masks .now) (x .prio .now) (x .cpu .now) (x .mask .now) (x .task) (k .if1 .taken))
 
 shared-slice-read-of-priority : tie.Need-shared-slice-read-of-priority
@@ -89,14 +90,14 @@ shared-slice-read-of-priority c = let k = at.shared-slice-read-of-priority c in 
 of-priority-requires : tie.Need-of-priority-requires
 of-priority-requires c κs = let k = at.of-priority-requires c in place (k .else1) .1
 
-cast-below : tie.Need-cast-below
-cast-below c = search needs
-
 mul-allowed : tie.Need-mul-allowed
 mul-allowed c = search needs
 
 shared-slice-read-allowed : tie.Need-shared-slice-read-allowed
 shared-slice-read-allowed c = let k = at.shared-slice-read-allowed c in omega (arith, place (k .else1) .0, k .pre .1 .1 .0)
+
+cast-lowest : tie.Need-cast-lowest
+cast-lowest c = search needs
 
 lowest-requires : tie.Need-lowest-requires
 lowest-requires c κs = let k = at.lowest-requires c in omega (arith, k .of-priority .ensures, place (k .else1) .1)
@@ -137,7 +138,7 @@ returns-3 : tie.Need-returns-3
 returns-3 c =
     let k = at.returns-3 c in
     let x = k .args in
-    as-step (x .masks .now) (x .prio .now) (x .cpu .now) (x .mask .now) (x .task) (k .if1 .left) (getD (x .cpu .now) (x .task) 0) (k .lowest-bit .result) _ (k .lowest-bit .ensures)
+    as-step (x .masks .now) (x .prio .now) (x .cpu .now) (x .mask .now) (x .task) (k .if1 .left) (getD (x .cpu .now) (x .task) 0) (k .lowest-bit .result) _ _ (k .lowest-bit .ensures)
     ∙ answered (k .after-lowest) _ (k .found .given .1)
 
 pub step-of-spec : {M : Type 1} → statement M
@@ -146,9 +147,9 @@ step-of-spec =
     returns
     shared-slice-read-of-priority
     of-priority-requires
-    cast-below
     mul-allowed
     shared-slice-read-allowed
+    cast-lowest
     lowest-requires
     enum-known-found
     returns-2

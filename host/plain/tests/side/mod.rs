@@ -1,10 +1,11 @@
 //! The library and the plain version side by side.
 
 use compare::call::Call;
+use plain::tables::{ENTRY, TASKS};
 use plain::{Event, Outcome, Record, Tables};
 
-/// Both on equal tables. The plain side has no tables if rows of 512 places cannot be made of them, and no record if
-/// the four tables of one have other lengths.
+/// Both on equal tables. The plain side has no tables if rows of 512 places and log entries of four cannot be made of
+/// them, and no record if the four tables of one have other lengths.
 pub struct Pair {
     pub ours: binding::Tables,
     tables: Option<Tables>,
@@ -121,7 +122,8 @@ fn event(e: binding::Event) -> Event {
 }
 
 fn tables(t: &binding::Tables) -> Option<Tables> {
-    let rows = t.rows.chunks(binding::TASKS).map(|row| row.try_into().ok());
+    let rows = t.rows.chunks(TASKS).map(|row| row.try_into().ok());
+    let log = t.log.chunks(ENTRY).map(|entry| entry.try_into().ok());
     Some(Tables {
         n: t.n,
         state: t.state.clone(),
@@ -133,7 +135,7 @@ fn tables(t: &binding::Tables) -> Option<Tables> {
         rows: rows.collect::<Option<_>>()?,
         counts: t.counts.clone(),
         flags: t.flags.clone(),
-        log: t.log.clone(),
+        log: log.collect::<Option<_>>()?,
     })
 }
 

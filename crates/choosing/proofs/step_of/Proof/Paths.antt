@@ -7,13 +7,13 @@ abbrev typeOf : {A : Type 0} → A → Type 0
 typeOf {A} x = A
 
 abbrev pub Need-shared-slice-read : Type 0
-Need-shared-slice-read = tie.Need-shared-slice-read-t14
+Need-shared-slice-read = tie.Need-shared-slice-read-t15
 
 abbrev pub Need-cast : Type 0
-Need-cast = tie.Need-cast-t15
+Need-cast = tie.Need-cast-t16
 
 abbrev pub Need-cast-2 : Type 0
-Need-cast-2 = tie.Need-cast-t20
+Need-cast-2 = tie.Need-cast-t21
 
 abbrev pub start : (c : tie.Start) → record { args : typeOf (c .args); pre : typeOf (c .pre) }
 start c = record { args = c .args; pre = c .pre }
@@ -27,8 +27,8 @@ else1 c = let b = start (c .before .before .before .before) in record { args = b
 abbrev pub after-of-priority : (c : tie.After-of-priority) → let b = else1 (c .before .before) in record { args : typeOf (b .args); pre : typeOf (b .pre); if1 : typeOf (b .if1); else1 : typeOf (b .else1); of-priority : typeOf (c .of-priority) }
 after-of-priority c = let b = else1 (c .before .before) in record { args = b .args; pre = b .pre; if1 = b .if1; else1 = b .else1; of-priority = c .of-priority }
 
-abbrev pub after-lowest : (c : tie.After-lowest) → let b = after-of-priority (c .before .before .before) in record { args : typeOf (b .args); pre : typeOf (b .pre); if1 : typeOf (b .if1); else1 : typeOf (b .else1); of-priority : typeOf (b .of-priority); lowest : typeOf (c .lowest); after-lowest : tie.After-lowest }
-after-lowest c = let b = after-of-priority (c .before .before .before) in record { args = b .args; pre = b .pre; if1 = b .if1; else1 = b .else1; of-priority = b .of-priority; lowest = c .lowest; after-lowest = c }
+abbrev pub after-lowest : (c : tie.After-lowest) → let b = after-of-priority (c .before .before) in record { args : typeOf (b .args); pre : typeOf (b .pre); if1 : typeOf (b .if1); else1 : typeOf (b .else1); of-priority : typeOf (b .of-priority); lowest : typeOf (c .lowest); after-lowest : tie.After-lowest }
+after-lowest c = let b = after-of-priority (c .before .before) in record { args = b .args; pre = b .pre; if1 = b .if1; else1 = b .else1; of-priority = b .of-priority; lowest = c .lowest; after-lowest = c }
 
 abbrev pub at-match-keys1 : (c : tie.At-match-keys1) → let b = after-lowest (c .before) in record { args : typeOf (b .args); pre : typeOf (b .pre); if1 : typeOf (b .if1); else1 : typeOf (b .else1); after-lowest : typeOf (b .after-lowest) }
 at-match-keys1 c = let b = after-lowest (c .before) in record { args = b .args; pre = b .pre; if1 = b .if1; else1 = b .else1; after-lowest = b .after-lowest }
@@ -54,11 +54,11 @@ shared-slice-read-of-priority c = else1 (c .before)
 abbrev pub of-priority-requires : (c : tie.After-shared-slice-known4) → typeOf (else1 (c .before))
 of-priority-requires c = else1 (c .before)
 
-abbrev pub shared-slice-read-allowed : (c : tie.After-shared-slice-known5) → typeOf (after-of-priority (c .before .before))
-shared-slice-read-allowed c = after-of-priority (c .before .before)
+abbrev pub shared-slice-read-allowed : (c : tie.After-shared-slice-known5) → typeOf (after-of-priority (c .before))
+shared-slice-read-allowed c = after-of-priority (c .before)
 
-abbrev pub lowest-requires : (c : tie.After-shared-slice-known5) → typeOf (after-of-priority (c .before .before))
-lowest-requires c = after-of-priority (c .before .before)
+abbrev pub lowest-requires : (c : tie.After-shared-slice-known5) → typeOf (after-of-priority (c .before))
+lowest-requires c = after-of-priority (c .before)
 
 abbrev pub returns-2 : (c : tie.At-match-keys2) → typeOf (at-match-keys2 c)
 returns-2 c = at-match-keys2 c
@@ -72,7 +72,7 @@ cast c = after-shared-slice-known6 c
 abbrev pub returns-3 : (c : tie.After-lowest-bit) → typeOf (after-lowest-bit c)
 returns-3 c = after-lowest-bit c
 
-pub close : {M : Type 1} → tie.Need-returns → tie.Need-shared-slice-read-of-priority → tie.Need-of-priority-requires → tie.Need-cast-below → tie.Need-mul-allowed → tie.Need-shared-slice-read-allowed → tie.Need-lowest-requires → tie.Need-enum-known-found → tie.Need-returns-2 → tie.Need-shared-slice-read-t14 → tie.Need-cast-t15 → tie.Need-lowest-bit-requires → tie.Need-cast-t20 → tie.Need-returns-3 → statement M
+pub close : {M : Type 1} → tie.Need-returns → tie.Need-shared-slice-read-of-priority → tie.Need-of-priority-requires → tie.Need-mul-allowed → tie.Need-shared-slice-read-allowed → tie.Need-cast-lowest → tie.Need-lowest-requires → tie.Need-enum-known-found → tie.Need-returns-2 → tie.Need-shared-slice-read-t15 → tie.Need-cast-t16 → tie.Need-lowest-bit-requires → tie.Need-cast-t21 → tie.Need-returns-3 → statement M
 close a0 a1 a2 a3 a4 a5 a6 a7 a8 a9 a10 a11 a12 a13 =
     tie.close
     (tie.spec

@@ -24,9 +24,12 @@ use Rattle.migration.proofs.settle.migrate.Tie as tie
 use Rattle.migration.proofs.settle.migrate.Proof.Paths as at
 mod Paths
 
-module _ {ps ks flat : List ℕ} {r : Record} {t o d : ℕ} (m : Machine) (s : Stepping m ps ks flat r t o d) where
-  abbrev v : Move
-  v = record { task = t; origin = o; target = d }
+module _ {ps ks flat : List ℕ} {r : Record} {v : Move} (m : Machine) (s : Stepping m ps ks flat r v) where
+  abbrev t : ℕ
+  t = v .task
+
+  abbrev o : ℕ
+  o = v .origin
 
   k : Chosen m v
   k = chosen m v (s .well) (s .applies)
@@ -42,7 +45,7 @@ module _ {ps ks flat : List ℕ} {r : Record} {t o d : ℕ} (m : Machine) (s : S
   rows′ = rowsWith ks flat o (delete t (rowAt ks flat o))
 
   -- the mover has left, and can enter the destination's row; every level is as it was
-  entering : {ks′ flat′ : List ℕ} → ks′ ≡ rowCounts rows′ → flat′ ≡ flatOf rows′ → Entering (dequeue t o m) ps ks′ flat′ r t d
+  entering : {ks′ flat′ : List ℕ} → ks′ ≡ rowCounts rows′ → flat′ ≡ flatOf rows′ → Entering (dequeue t o m) ps ks′ flat′ r t (v .target)
   entering {ks′} {flat′} ek ef =
       record {
         held = record {
@@ -68,19 +71,19 @@ dequeue-requires c κs =
     let k = at.dequeue-requires c in
     let m = k .pre .0 .0 in
     let s = k .pre .0 .1 in
-    can-leave m (k .args .task) (s .held) (leaves-small m s) (stands m s)
+    can-leave m (k .args .step .task) (s .held) (leaves-small m s) (stands m s)
 
 enter-requires : tie.Need-enter-requires
 enter-requires c κs =
     let k = at.enter-requires c in
     let m = k .pre .0 .0 in
     let s = k .pre .0 .1 in
-    ((dequeue (k .args .task) (k .args .origin) m, entering m s (k .dequeue .ensures .1) (k .dequeue .ensures .0)), k .pre .1)
+    ((dequeue (k .args .step .task) (k .args .step .origin) m, entering m s (k .dequeue .ensures .1) (k .dequeue .ensures .0)), k .pre .1)
 
 returns : tie.Need-returns
 returns c =
     let k = at.returns c in (
-      λ m s. k .enter .ensures .0 (dequeue (k .args .task) (k .args .origin) m) (entering m s (k .dequeue .ensures .1) (k .dequeue .ensures .0)),
+      λ m s. k .enter .ensures .0 (dequeue (k .args .step .task) (k .args .step .origin) m) (entering m s (k .dequeue .ensures .1) (k .dequeue .ensures .0)),
       k .enter .ensures .1,
     )
 

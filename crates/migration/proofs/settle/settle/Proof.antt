@@ -18,7 +18,8 @@ use Rattle.hinting.specs.Hinted.{Hinted, hintNext}
 use Rattle.hinting.specs.declared.hint.Hint.{Hint}
 use Rattle.hinting.proofs.Hints.{hinted-after, nobody-moves}
 use Rattle.choosing.specs.Choosing.{stepOf}
-use Rattle.choosing.specs.declared.Step.{Step}
+use Rattle.movelog.specs.Entry.{moveBy}
+use Rattle.movelog.specs.declared.Step.{Step}
 use Rattle.migration.specs.Settling.{Settling}
 use Rattle.migration.proofs.Going.{step-none, step-some, none-taken, Going, going-start, here, same-n, few, more-few, choosing, runs-lent, going-end, going-on, going-cpus, going-rows, going-counts, going-log}
 use Rattle.migration.proofs.settle.settle.Statement.{statement}
@@ -28,7 +29,7 @@ mod Paths
 
 -- one step is known: what it is, and what is known after it
 module _ {m : Machine} (w : WellFormed m) {ps cs ms ks flat old log : List ℕ} {k : ℕ} {r : Record} {h : Hint} (g : Going m ps cs ms ks flat old log k r h) where
-  applies : (s : Step) → stepOf s ≡ next (g .reached) → (s .task ≡ 65535 → ⊥) → next (g .reached) ≡ some (record { task = s .task; origin = s .origin; target = s .target })
+  applies : (s : Step) → stepOf s ≡ next (g .reached) → (s .task ≡ 65535 → ⊥) → next (g .reached) ≡ some (moveBy s)
   applies s e n = sym e ∙ step-some s n
 
   module _ {v : Move} (n : next (g .reached) ≡ some v) where
@@ -81,7 +82,7 @@ module _ (c : tie.At-loop Inv-loop μ-loop) where
 -- a step applies
 module _ (c : tie.Else2 Inv-loop μ-loop) where
   abbrev step : Move
-  step = let s = at.else2 c .choose .result in record { task = s .task; origin = s .origin; target = s .target }
+  step = moveBy (at.else2 c .choose .result)
 
   stepping : let k = at.else2 c in next (going (k .at-loop) .reached) ≡ some step
   stepping =
@@ -148,7 +149,7 @@ note-requires c κs =
     let d = target-small w g n in
     let s = w .shape .cpus in
     let size = going-log w g (k .pre .1) in
-    (omega (arith, k .pre .1), (omega arith, (omega arith, omega arith)))
+    (size ∙ k .pre .1, (omega arith, (omega arith, omega arith)))
 
 migrate-requires : tie.Need-migrate-requires Inv-loop μ-loop
 migrate-requires c κs =

@@ -25,11 +25,11 @@ module _ {i0 : tie.InvT-loop} {i1 : tie.MeasureT-loop} where
   abbrev pub after-choose : (c : tie.After-choose i0 i1) → let b = at-loop (c .before .before .before .before .before .before) in record { pre : typeOf (b .pre); start : typeOf (b .start); loop : typeOf (b .loop); at-loop : typeOf (b .at-loop); choose : typeOf (c .choose) }
   after-choose c = let b = at-loop (c .before .before .before .before .before .before) in record { pre = b .pre; start = b .start; loop = b .loop; at-loop = b .at-loop; choose = c .choose }
 
-  abbrev pub then2 : (c : tie.Then2 i0 i1) → let b = after-choose (c .before) in record { pre : typeOf (b .pre); start : typeOf (b .start); loop : typeOf (b .loop); at-loop : typeOf (b .at-loop); choose : typeOf (b .choose); if2 : typeOf (c .if2) }
-  then2 c = let b = after-choose (c .before) in record { pre = b .pre; start = b .start; loop = b .loop; at-loop = b .at-loop; choose = b .choose; if2 = c .if2 }
+  abbrev pub then2 : (c : tie.Then2 i0 i1) → let b = after-choose (c .before .before) in record { pre : typeOf (b .pre); start : typeOf (b .start); loop : typeOf (b .loop); at-loop : typeOf (b .at-loop); choose : typeOf (b .choose); if2 : typeOf (c .if2) }
+  then2 c = let b = after-choose (c .before .before) in record { pre = b .pre; start = b .start; loop = b .loop; at-loop = b .at-loop; choose = b .choose; if2 = c .if2 }
 
-  abbrev pub else2 : (c : tie.Else2 i0 i1) → let b = after-choose (c .before) in record { pre : typeOf (b .pre); start : typeOf (b .start); loop : typeOf (b .loop); at-loop : typeOf (b .at-loop); choose : typeOf (b .choose); if2 : typeOf (c .if2); else2 : tie.Else2 i0 i1 }
-  else2 c = let b = after-choose (c .before) in record { pre = b .pre; start = b .start; loop = b .loop; at-loop = b .at-loop; choose = b .choose; if2 = c .if2; else2 = c }
+  abbrev pub else2 : (c : tie.Else2 i0 i1) → let b = after-choose (c .before .before) in record { pre : typeOf (b .pre); start : typeOf (b .start); loop : typeOf (b .loop); at-loop : typeOf (b .at-loop); choose : typeOf (b .choose); if2 : typeOf (c .if2); else2 : tie.Else2 i0 i1 }
+  else2 c = let b = after-choose (c .before .before) in record { pre = b .pre; start = b .start; loop = b .loop; at-loop = b .at-loop; choose = b .choose; if2 = c .if2; else2 = c }
 
   abbrev pub after-after : (c : tie.After-after i0 i1) → let b = else2 (c .before .before) in record { pre : typeOf (b .pre); start : typeOf (b .start); loop : typeOf (b .loop); at-loop : typeOf (b .at-loop); choose : typeOf (b .choose); if2 : typeOf (b .if2); else2 : typeOf (b .else2); after : typeOf (c .after) }
   after-after c = let b = else2 (c .before .before) in record { pre = b .pre; start = b .start; loop = b .loop; at-loop = b .at-loop; choose = b .choose; if2 = b .if2; else2 = b .else2; after = c .after }
