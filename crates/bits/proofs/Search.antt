@@ -122,10 +122,6 @@ pub lowest-bit : (k m : ℕ) → lowest k m < k → bit m (lowest k m) ≡ true
 unfolding lowest
 lowest-bit k m h = first-holds (bit m) k h
 
-pub lowest-before : (k m c : ℕ) → c < lowest k m → bit m c ≡ false
-unfolding lowest
-lowest-before k m c h = first-before (bit m) k c h
-
 pub lowest-is : (k m c : ℕ) → c < k → bit m c ≡ true → ((d : ℕ) → d < c → bit m d ≡ false) → lowest k m ≡ c
 unfolding lowest
 lowest-is k m c h t b = first-is (bit m) k c h t b

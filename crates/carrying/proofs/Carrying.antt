@@ -11,7 +11,7 @@ use Rattle.rules.specs.Plan.{carried}
 use Rattle.plans.specs.Decided.{asPlan, did}
 use Rattle.plans.specs.declared.plan.Plan.{Plan as Written}
 use Rattle.plans.specs.declared.plan.Decision.{Decision}
-use Rattle.plans.specs.declared.plan.Decision.the-variants.{Refused, Nothing, Place, Flag}
+use Rattle.plans.specs.declared.plan.Decision.the-variants.{Place, Flag}
 use Rattle.carrying.specs.Holds.{Holds, Ready, Carriable, Placeable}
 use Rattle.parts.specs.Optional.{Flagging}
 

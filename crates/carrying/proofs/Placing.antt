@@ -6,13 +6,13 @@ use mathlib.Core.Logic.{_≢_, _⊎_, inl, inr}
 use mathlib.Core.List.{List, [], _∷_}
 use Prim.Native.Nat.{ℕ, _≤_, _<_}
 use native.Mathlib.Omega.{arith}
-use lib.ListN.{length, getD, set, length-set}
+use lib.ListN.{length, set, length-set}
 use lib.Seq.{getD-set-same, getD-set-other, set-getD}
 use Rattle.cpupri.specs.Record.{recordOf, Whole}
 use Rattle.levels.specs.declared.record.Record.{Record}
 use Rattle.rules.specs.Lists.{In}
-use Rattle.rules.specs.Machine.{Machine, Task, Column, taskOf, prioOf, row, flag, level, levels, rowLevel, levelOf, build, store, write, enqueue, dequeue, runnable, taskPlaces, highestPriority}
-use Rattle.rules.specs.Plan.{Plan, left, wrote, carried, When, Doable}
+use Rattle.rules.specs.Machine.{Machine, Task, taskOf, prioOf, row, flag, level, levels, rowLevel, levelOf, build, write, enqueue, dequeue, runnable, taskPlaces, highestPriority}
+use Rattle.rules.specs.Plan.{Plan, left, wrote, carried, When}
 use Rattle.rules.specs.WellFormed.{WellFormed}
 use Rattle.laws.proofs.Lists.{in-here}
 use Rattle.laws.proofs.Apart.{Apart, apart-idle, apart-dequeue, apart-write, room, in-row, in-other}

@@ -1,6 +1,6 @@
 -- The task that runs on a CPU, read from the lent rows.
 -- Assumes nothing.
-use mathlib.Core.Path.{_≡_, refl, sym, ap, _∙_, subst}
+use mathlib.Core.Path.{_≡_, refl, sym, ap, _∙_}
 use mathlib.Core.Logic.{_≢_}
 use mathlib.Core.List.{List, [], _∷_}
 use Prim.Native.Nat.{ℕ, _+_, _*_, _≤_, _<_}
@@ -8,12 +8,8 @@ use native.Mathlib.Nat.{suc-ne-zero}
 use native.Mathlib.Omega.{arith}
 use lib.ListN.{length, getD, List·getD-eq-default}
 use Rattle.cpupri.specs.Record.{recordOf}
-use Rattle.rules.specs.Lists.{In}
 use Rattle.rules.specs.Machine.{Machine, row, levels, taskPlaces}
 use Rattle.rules.specs.Tables.{nothing}
-use Rattle.rules.specs.WellFormed.{WellFormed}
-use Rattle.laws.proofs.Lists.{in-here}
-use Rattle.laws.proofs.Apart.{in-row, runnable-place}
 use Rattle.runqueue.specs.Table.{HoldsRows, rowAt}
 use Rattle.runqueue.proofs.Flat.{count-is, first-place, rows-fit}
 use Rattle.placement.specs.Held.{Held}

@@ -2,15 +2,14 @@
 -- Assumes nothing.
 use mathlib.Core.Path.{_≡_, refl, sym, ap, _∙_, subst, subst₂}
 use mathlib.Core.Bool.{Bool, true, false, cond, _&&_}
-use mathlib.Core.List.{List, tail}
+use mathlib.Core.List.{tail}
 use mathlib.Core.Option.{Option, none, some}
 use Prim.Native.Nat.{ℕ, _<_}
 use native.Mathlib.Omega.{arith}
 use lib.Dec.{eqb, ltb}
-use Rattle.rules.specs.Lists.{In}
 use Rattle.rules.specs.Machine.{Machine, Task as Columns, taskOf, row, running, level, runnable, taskPlaces, cpuPlaces}
 use Rattle.rules.specs.Migration.{next}
-use Rattle.rules.specs.Plan.{carried, Doable}
+use Rattle.rules.specs.Plan.{carried}
 use Rattle.rules.specs.Tables.{nothing}
 use Rattle.rules.specs.WellFormed.{WellFormed, Sound, is-free, is-asleep, is-runnable}
 use Rattle.laws.specs.Limited.{Limited, holds, second, fallenCpu, newTask, orNothing}

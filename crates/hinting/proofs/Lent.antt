@@ -10,8 +10,7 @@ use lib.Dec.{eqb, ltb}
 use lib.ListN.{length, getD}
 use borrow.Author.Tests.{eq-eqb, ne-eqb, not-false}
 use Rattle.rules.specs.Machine.{Machine, taskOf, row, running, level, levels, runnable, taskPlaces, cpuPlaces}
-use Rattle.rules.specs.Tables.{flatOf, nothing}
-use Rattle.rules.specs.WellFormed.{WellFormed}
+use Rattle.rules.specs.Tables.{nothing}
 use Rattle.laws.specs.Limited.{holds, second, orNothing}
 use Rattle.laws.proofs.Tables.{flat-first, flat-second, length-flat}
 use Rattle.laws.proofs.Record.{levels-below}

@@ -16,7 +16,7 @@ use Rattle.rules.specs.Events.{Event, Kind, kinds, kindOf, byKind, effect, effe
 use Rattle.rules.specs.Events.{add, remove, wake, sleep, set-priority, set-affinity, tick, yield, set-ordinary}
 use Rattle.cpupri.specs.Found.{maskFits}
 use Rattle.rules.specs.Refusals.{Check, firstFailing, Passes, noKind, checks, refusal}
-use Rattle.rules.specs.Outcome.{outcome, answered, accepted, refused}
+use Rattle.rules.specs.Outcome.{outcome, answered, accepted}
 use Rattle.bits.proofs.Tests.{and-both}
 use Rattle.laws.proofs.Bools.{both}
 
@@ -78,11 +78,6 @@ effect-is m e a = ap (byKind m (λ k. effectOf k e m)) (a .named)
 pub outcome-accepted : (m : Machine) (e : Event) → refusal m e ≡ 0 → outcome m e ≡ accepted e m
 unfolding outcome
 outcome-accepted m e h = ap (λ (r : ℕ). answered r e m) h
-
--- a refused event changes nothing
-pub outcome-refused : (m : Machine) (e : Event) (r : ℕ) → refusal m e ≡ suc r → outcome m e ≡ refused (suc r) m
-unfolding outcome
-outcome-refused m e r h = ap (λ (r : ℕ). answered r e m) h
 
 pub outcome-answer : (m : Machine) (e : Event) → outcome m e .answer ≡ refusal m e
 unfolding outcome

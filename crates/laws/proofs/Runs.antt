@@ -49,9 +49,6 @@ run-keeps f h out = refl
 run-keeps f h (stop n) = refl
 run-keeps f h (step {m = m} {v = v} n r) = run-keeps f h r ∙ h v m
 
-pub run-prio : {k : ℕ} {m : Machine} {l : List Move} {e : Machine} → Run k m l e → e .prio ≡ m .prio
-run-prio r = run-keeps (λ (m : Machine). m .prio) (λ v m. refl) r
-
 pub run-n : {k : ℕ} {m : Machine} {l : List Move} {e : Machine} → Run k m l e → e .n ≡ m .n
 run-n r = run-keeps (λ (m : Machine). m .n) (λ v m. refl) r
 
@@ -290,8 +287,3 @@ settled-stop m e = go (m .n)
     go : (k : ℕ) → settle k m ≡ record { log = []; machine = m }
     go zero = refl
     go (suc k) = ap (onward m (λ v. settle k (migrate v m))) e
-
-pub settled-step : (m : Machine) (v : Move) → WellFormed m → next m ≡ some v
-    → settleAll m ≡ record { log = v ∷ settleAll (migrate v m) .log; machine = settleAll (migrate v m) .machine }
-unfolding settle
-settled-step m v w e = sym (settle-any (suc (m .n)) m w (omega arith)) ∙ ap (onward m (λ v. settle (m .n) (migrate v m))) e

@@ -1,7 +1,6 @@
 -- The ten tables that a caller lends, put together, and their lengths.
 -- Assumes nothing.
 use mathlib.Core.Bool.{Bool, _&&_}
-use mathlib.Core.List.{List}
 use Prim.Native.Nat.{ℕ, _*_}
 use lib.Dec.{eqb}
 use denote.Triple.Both.{Both}

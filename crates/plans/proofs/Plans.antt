@@ -1,25 +1,24 @@
 -- The plan of each kind is its own effect, and can be carried out.
 -- Assumes nothing.
 use mathlib.Core.Path.{_≡_, refl, sym, ap, _∙_, subst}
-use mathlib.Core.Bool.{Bool, true, false, cond, not, _||_, _&&_}
-use mathlib.Core.Logic.{_≢_, _⊎_, inl, inr}
+use mathlib.Core.Bool.{Bool, true, false, cond}
+use mathlib.Core.Logic.{_≢_, inl, inr}
 use mathlib.Core.List.{List, [], _∷_}
 use Prim.Native.Nat.{ℕ, _-_, _≤_, _<_, _^_}
 use native.Mathlib.Omega.{arith}
 use lib.Dec.{eqb, leb}
-use borrow.Author.Tests.{eq-eqb, ne-eqb, le-leb, lt-leb, leb-true}
+use borrow.Author.Tests.{eq-eqb, ne-eqb, le-leb, lt-leb}
 use Rattle.bits.specs.Bit.{bit, first, lowest}
 use Rattle.bits.proofs.Search.{lowest-is, first-before}
-use Rattle.cpupri.specs.Found.{maskFits}
 use Rattle.rules.specs.Lists.{In}
-use Rattle.rules.specs.Machine.{Machine, Task, taskOf, freeTask, row, enqueue, dequeue, requeue, lowestAllowed, free, asleep, runnable, rr, fullSlice, cpuPlaces, taskPlaces, highestPriority}
+use Rattle.rules.specs.Machine.{Machine, Task, taskOf, row, enqueue, dequeue, requeue, lowestAllowed, free, asleep, runnable, rr, fullSlice, cpuPlaces, taskPlaces, highestPriority}
 use Rattle.rules.specs.WellFormed.{WellFormed, Fit}
-use Rattle.rules.specs.Events.{Event, added, wakeCpu, woken, slept, reprioritised, reaffined, tickedTask, ticked, yielded, toFirst, event}
+use Rattle.rules.specs.Events.{wakeCpu, woken, slept, reprioritised, reaffined, tickedTask, ticked, yielded, toFirst}
 use Rattle.laws.proofs.Lists.{in-here}
 use Rattle.laws.proofs.Apart.{fit-of, runnable-fit, runnable-place, row-in, in-row}
 use Rattle.laws.proofs.Effects.{lowest-good}
 use Rattle.rules.specs.Plan.{Plan, carried, rewrite, enter, leave, shift, withState, withPrio, withSlice, withMask, Doable, Carries}
-use Rattle.plans.specs.Decided.{asTask, Named, Runs, firstOf}
+use Rattle.plans.specs.Decided.{Named, Runs, firstOf}
 use Rattle.plans.specs.declared.plan.Task.{Task as Columns}
 use Rattle.plans.proofs.Planned.{write-self, write-state, write-prio, write-slice, write-mask}
 

@@ -7,7 +7,7 @@ use lib.ListN.{replicate}
 use Rattle.rules.specs.Machine.{runnable, asleep, rr, fullSlice}
 use Rattle.rules.specs.Events.{Event, event}
 use Rattle.rules.specs.Cases.{add, addRR, remove, wake, sleep, priority, affinity, tick, yield, ordinary, after2}
-use Rattle.rules.specs.Cases.{Used, busy, idleCpu, shared, ordinaryCpu, task, runs, sleeps, gives, refuses, Case, case, fresh2, asleep2, runs2}
+use Rattle.rules.specs.Cases.{Used, busy, idleCpu, shared, ordinaryCpu, task, runs, sleeps, gives, Case, case, fresh2, asleep2, runs2}
 
 -- an RR task in row c, with the slice l
 abbrev pub runsRR : ℕ → ℕ → ℕ → ℕ → ℕ → Used

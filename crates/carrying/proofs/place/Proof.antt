@@ -3,7 +3,7 @@
 use borrow.Author.Needs.{needs}
 use mathlib.Core.Path.{sym, subst}
 use Rattle.cpupri.specs.Record.{Whole}
-use Rattle.rules.specs.Plan.{left, wrote, carried}
+use Rattle.rules.specs.Plan.{wrote, carried}
 use Rattle.plans.specs.Decided.{asPlan}
 use Rattle.carrying.proofs.Placing.{leaves, sized, still-sized, whole, enters, follows-origin, follows-target, placed}
 use Rattle.parts.proofs.Optional.{still-whole-if}

@@ -8,7 +8,7 @@ use native.Mathlib.Nat.{suc-ne-zero}
 use native.Mathlib.Omega.{arith}
 use lib.Dec.{leb}
 use borrow.Author.Tests.{le-leb, lt-leb}
-use Rattle.rules.specs.Machine.{Task, free, runnable, taskPlaces, lowestPriority, highestPriority}
+use Rattle.rules.specs.Machine.{Task, free, taskPlaces, lowestPriority, highestPriority}
 use Rattle.rules.specs.Plan.{rewrite, shift, withPrio}
 use Rattle.laws.proofs.Checks.{between}
 use Rattle.plans.proofs.Answers.{fails-here, passes-here, none-left, tested}

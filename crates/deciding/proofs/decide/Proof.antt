@@ -1,7 +1,7 @@
 -- `deciding::decide` meets its contract: each arm by its kind's contract.
 -- Assumes nothing.
 use borrow.Author.Needs.{needs}
-use mathlib.Core.Path.{_≡_, refl, ap, subst, sym}
+use mathlib.Core.Path.{refl, ap, subst, sym}
 use Prim.Native.Nat.{ℕ, _≤_}
 use Rattle.rules.specs.Machine.{cpuPlaces}
 use Rattle.rules.specs.Events.{Event, event, kindOf, add, remove, wake, sleep, set-priority, set-affinity, tick, yield, set-ordinary}

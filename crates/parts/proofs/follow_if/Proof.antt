@@ -1,6 +1,5 @@
 -- `parts::follow_if` meets its contract.
 -- Assumes nothing.
-use Rattle.cpupri.specs.Record.{lentRecord}
 use Rattle.parts.proofs.Optional.{not-followed, may-follow, has-followed}
 use Rattle.parts.proofs.follow_if.Statement.{statement}
 use Rattle.parts.proofs.follow_if.Tie as tie

@@ -1,7 +1,6 @@
 -- `hinting::hint::after` meets its contract.
 -- Assumes nothing.
 use borrow.Author.Needs.{needs}
-use native.Mathlib.Omega.{arith}
 use Rattle.hinting.proofs.Hints.{next-off, next-on, next-unknown}
 use Rattle.hinting.proofs.hint.after.Statement.{statement}
 use Rattle.hinting.proofs.hint.after.Tie as tie

@@ -1,9 +1,8 @@
 -- `hinting::past::hint` meets its contract.
 -- Assumes nothing.
 use borrow.Author.Needs.{needs}
-use mathlib.Core.Path.{_≡_, sym, ap, subst}
+use mathlib.Core.Path.{sym, ap, subst}
 use native.Mathlib.Omega.{arith}
-use Rattle.rules.specs.Machine.{Machine}
 use Rattle.hinting.specs.Past.{Standing, hintAfter}
 use Rattle.hinting.specs.declared.past.Past.{Past}
 use Rattle.hinting.proofs.Lent.{few, hint-is, unlevelled}

@@ -1,11 +1,10 @@
 -- `hinting::past::new_task` meets its contract.
 -- Assumes nothing.
-use mathlib.Core.Path.{_≡_, ap, _∙_}
-use mathlib.Core.List.{List}
+use mathlib.Core.Path.{ap}
 use native.Mathlib.Omega.{arith}
 use lib.ListN.{length, getD}
-use Prim.Native.Nat.{ℕ, _<_}
-use Rattle.rules.specs.Machine.{Machine, levels, taskPlaces}
+use Prim.Native.Nat.{_<_}
+use Rattle.rules.specs.Machine.{levels}
 use Rattle.hinting.specs.Past.{Reading}
 use Rattle.hinting.proofs.Lent.{cpus-long, cpu-low, few, rows-long, new-away, new-waits, new-stays, new-behind}
 use Rattle.hinting.proofs.past.new_task.Statement.{statement}

@@ -1,7 +1,6 @@
 -- `hinting::past::standing` meets its contract.
 -- Assumes nothing.
 use native.Mathlib.Omega.{arith}
-use lib.ListN.{getD}
 use Rattle.hinting.proofs.Lent.{cpus-long, cpu-low, few, rows-long, past-is}
 use Rattle.hinting.proofs.past.standing.Statement.{statement}
 use Rattle.hinting.proofs.past.standing.Tie as tie
