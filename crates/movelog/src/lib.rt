@@ -4,6 +4,7 @@ ghost use Prim.Native.Nat.{_*_, _<_};
 ghost use lib.ListN.{length};
 ghost use lib.Seq.{sets};
 ghost use Rattle.bits.specs.Moments.{old, new};
+ghost use Rattle.rules.specs.Machine.{cpuPlaces};
 ghost use Rattle.rules.specs.Outcome.{entryNumbers, entryWidth, logEntries};
 ghost use Rattle.rules.specs.Tables.{logPlaces};
 ghost use Rattle.movelog.specs.Entry.{moveBy};
@@ -21,8 +22,8 @@ pub struct Step {
 pub fn note(log: &mut [u16], entry: usize, step: Step)
     requires { ⌜ length (now log) ≡ logPlaces ⌝ }
     requires { ⌜ entry < logEntries ⌝ }
-    requires { ⌜ step .origin < 64 ⌝ }
-    requires { ⌜ step .target < 64 ⌝ }
+    requires { ⌜ step .origin < cpuPlaces ⌝ }
+    requires { ⌜ step .target < cpuPlaces ⌝ }
     ensures { λ u. ⌜ new log ≡ sets (old log) (entry * entryWidth) (entryNumbers (moveBy step)) ⌝ }
 {
     let at = entry * ENTRY;

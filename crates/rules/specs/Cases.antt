@@ -189,12 +189,16 @@ waiting5 = before5 ++ wake 2 ∷ []
 abbrev pub after5 : List Event
 after5 = waiting5 ++ wake 3 ∷ []
 
+-- two moves, over the levels 22 and 12
+abbrev pub log5 : List ℕ
+log5 = 0 ∷ 0 ∷ 1 ∷ 22 ∷ 1 ∷ 1 ∷ 2 ∷ 12 ∷ []
+
 abbrev pub k5 : List Case
 k5 =
     case 3 before5 (wake 2)
     (gives 0 [] (busy 32 (0 ∷ []) ∷ busy 22 (1 ∷ []) ∷ busy 12 (2 ∷ []) ∷ []) (runs 0 30 0 3 ∷ runs 1 20 1 6 ∷ runs 2 10 2 4 ∷ sleeps 3 40 0 1 ∷ []))
     ∷ case 3 waiting5 (wake 3)
-    (gives 2 (0 ∷ 0 ∷ 1 ∷ 22 ∷ 1 ∷ 1 ∷ 2 ∷ 12 ∷ []) (busy 42 (3 ∷ []) ∷ busy 32 (0 ∷ []) ∷ busy 22 (1 ∷ 2 ∷ []) ∷ [])
+    (gives 2 log5 (busy 42 (3 ∷ []) ∷ busy 32 (0 ∷ []) ∷ busy 22 (1 ∷ 2 ∷ []) ∷ [])
     (runs 0 30 1 3 ∷ runs 1 20 2 6 ∷ runs 2 10 2 4 ∷ runs 3 40 0 1 ∷ []))
     ∷ []
 

@@ -143,7 +143,7 @@ fn told(t: Tables, kind: u32) {
     }
 }
 
-// As many entries of the log.
+// The log's entries, as many as there were moves.
 fn entries(moves: u32, log: [u16; LOG]) {
     let mut i = 0;
     while i < ENTRIES {

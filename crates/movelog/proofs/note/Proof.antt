@@ -73,8 +73,7 @@ returns c = let x = at.returns c .args in stores (x .log .now) (x .entry * entry
 
 pub note-spec : {M : Type 1} → statement M
 note-spec =
-    tie.close
-    (tie.spec
+    at.close
     mul-at
     mul-log
     slice-write-log
@@ -91,4 +90,4 @@ note-spec =
     mul-log-4
     slice-write-log-4
     same-length
-    returns)
+    returns
