@@ -59,7 +59,7 @@ extern "C" {
 #define QORIWESH_REMOVE 2   /* task who, asleep: free */
 #define QORIWESH_WAKE 3     /* task who, asleep: runnable */
 #define QORIWESH_SLEEP 4    /* task who, runnable: asleep */
-#define QORIWESH_PRIORITY 5 /* task who has priority b */
+#define QORIWESH_PRIORITY 5 /* task who has priority b: raised behind its equals, lowered before them */
 #define QORIWESH_AFFINITY 6 /* task who is allowed the CPUs of mask */
 #define QORIWESH_TICK 7     /* a tick on CPU who */
 #define QORIWESH_YIELD 8    /* the task that runs on CPU who yields */

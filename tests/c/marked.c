@@ -1,9 +1,9 @@
 /* SPDX-License-Identifier: MIT */
 /*
  * Document 01's marked examples K1 to K12 through include/qoriwesh.h, as C and as C++; the fourth numbers of the
- * log are those of document 02, request L2. Each line of an example is an event with what it must answer; what the
- * example says of rows, levels, log and columns is compared after it. Says so and exits 0, or says what differs and
- * exits 1.
+ * log are those of document 02, request L2, and K11's row is that of request L3, of which there are more cases. Each
+ * line of an example is an event with what it must answer; what the example says of rows, levels, log and columns is
+ * compared after it. Says so and exits 0, or says what differs and exits 1.
  */
 #include <stdio.h>
 #include <string.h>
@@ -68,6 +68,11 @@ static void wake(uint32_t task, int moves)
 	event(QORIWESH_WAKE, task, 0, 0, 0, moves);
 }
 
+static void prio(uint32_t task, uint32_t want, int moves)
+{
+	event(QORIWESH_PRIORITY, task, 0, want, 0, moves);
+}
+
 /* A CPU's row: `count` tasks in run order, and 65535 behind them. */
 static void row(int cpu, int count, const uint16_t *tasks)
 {
@@ -90,6 +95,16 @@ static void row2(int cpu, uint16_t first, uint16_t second)
 	tasks[0] = first;
 	tasks[1] = second;
 	row(cpu, 2, tasks);
+}
+
+static void row3(int cpu, uint16_t first, uint16_t second, uint16_t third)
+{
+	uint16_t tasks[3];
+
+	tasks[0] = first;
+	tasks[1] = second;
+	tasks[2] = third;
+	row(cpu, 3, tasks);
 }
 
 static void level(int cpu, int want)
@@ -243,8 +258,109 @@ static void k10_k11(void)
 	add(1, 30, 1);
 	wake(0, 0);
 	wake(1, 0);
-	event(QORIWESH_PRIORITY, 0, 0, 30, 0, 0);
-	row2(0, 1, 0);
+	row2(0, 0, 1);
+	prio(0, 30, 0);
+	row2(0, 0, 1);
+	level(0, 32);
+}
+
+/* One CPU, and `count` tasks of these priorities, woken from the highest on: they stand in number order. */
+static void one_row(const char *name, uint32_t count, const uint32_t *prios)
+{
+	uint32_t i;
+
+	fresh(name, 1);
+	for (i = 0; i < count; i++) {
+		add(i, prios[i], 1);
+		wake(i, 0);
+	}
+}
+
+/* "stands behind every higher priority and before all others of the new one" */
+static void lowered(void)
+{
+	static const uint32_t above_two[] = { 50, 30, 30 }, above_each[] = { 50, 40, 30 }, five[] = { 60, 50, 40, 30, 30 };
+	static const uint16_t between[] = { 0, 2, 1, 3, 4 };
+
+	one_row("lowered, and runs on", 3, above_two);
+	prio(0, 30, 0);
+	row3(0, 0, 1, 2);
+	level(0, 32);
+	one_row("lowered, and waits", 3, above_each);
+	prio(0, 30, 0);
+	row3(0, 1, 0, 2);
+	level(0, 42);
+	one_row("lowered while it waits", 5, five);
+	prio(1, 30, 0);
+	row(0, 5, between);
+	level(0, 62);
+}
+
+/* "raised, it goes behind its equals; unchanged, it stays" */
+static void raised_unchanged(void)
+{
+	static const uint32_t two_equals[] = { 50, 50, 30, 20 }, equals[] = { 30, 30, 30 };
+	static const uint16_t third[] = { 0, 1, 3, 2 };
+	uint32_t task;
+
+	one_row("raised", 4, two_equals);
+	prio(3, 50, 0);
+	row(0, 4, third);
+	level(0, 52);
+	one_row("unchanged", 3, equals);
+	for (task = 0; task < 3; task++) {
+		prio(task, 30, 0);
+		row3(0, 0, 1, 2);
+	}
+}
+
+/* CPU 1 falls from level 62 to 32, and task 1, of level 42, waits on CPU 0. Then a task that itself comes to wait. */
+static void lowered_moves(void)
+{
+	fresh("lowered, and another moves", 2);
+	add(0, 50, 1);
+	add(1, 40, 3);
+	add(2, 60, 2);
+	wake(0, 0);
+	wake(2, 0);
+	wake(1, 0);
+	row2(0, 0, 1);
+	prio(2, 30, 1);
+	logged(0, 1, 0, 1, 32);
+	unlogged(1);
+	row1(0, 0);
+	row2(1, 1, 2);
+	level(1, 42);
+	fresh("lowered, and moves", 2);
+	add(0, 50, 3);
+	add(1, 30, 1);
+	wake(0, 0);
+	wake(1, 0);
+	prio(0, 30, 0);
+	row2(0, 0, 1);
+	prio(0, 20, 1);
+	logged(0, 0, 0, 1, QORIWESH_LEVEL_IDLE);
+	row1(0, 1);
+	row1(1, 0);
+}
+
+/* "asleep: the number only": it then wakes behind its equals. */
+static void lowered_sleeper(void)
+{
+	static struct qoriwesh_machine before;
+
+	fresh("a sleeper lowered", 1);
+	add(0, 30, 1);
+	add(1, 50, 1);
+	add(2, 20, 1);
+	wake(0, 0);
+	wake(2, 0);
+	memcpy(&before, &m, sizeof(m));
+	before.prio[1] = 30;
+	prio(1, 30, 0);
+	same("what else it changed", memcmp(&before, &m, sizeof(m)) != 0, 0);
+	wake(1, 0);
+	row3(0, 0, 1, 2);
 }
 
 /* A refused machine leaves the earlier one as it was. */
@@ -357,10 +473,14 @@ int main(void)
 	k7_k8();
 	k9();
 	k10_k11();
+	lowered();
+	raised_unchanged();
+	lowered_moves();
+	lowered_sleeper();
 	k12();
 	lengths();
 	others();
 	if (!wrong)
-		printf("K1 to K12, the finder and the refusals are as document 01 says\n");
+		printf("K1 to K12, new priorities, the finder and the refusals are as the documents say\n");
 	return wrong;
 }

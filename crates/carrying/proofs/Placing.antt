@@ -11,7 +11,7 @@ use lib.Seq.{getD-set-same, getD-set-other, set-getD}
 use Rattle.cpupri.specs.Record.{recordOf, Whole}
 use Rattle.levels.specs.declared.record.Record.{Record}
 use Rattle.rules.specs.Lists.{In}
-use Rattle.rules.specs.Machine.{Machine, Task, taskOf, prioOf, row, flag, level, levels, rowLevel, levelOf, build, write, enqueue, dequeue, runnable, taskPlaces, highestPriority}
+use Rattle.rules.specs.Machine.{Machine, Task, taskOf, prioOf, row, flag, level, levels, rowLevel, levelOf, build, write, enqueueAt, dequeue, runnable, taskPlaces, highestPriority}
 use Rattle.rules.specs.Plan.{Plan, left, wrote, carried, When}
 use Rattle.rules.specs.WellFormed.{WellFormed}
 use Rattle.laws.proofs.Lists.{in-here}
@@ -128,10 +128,10 @@ module _ {m : Machine} {ss ps qs cs ls ks flat ns fs : List ℕ} {r : Record} {p
       go true = h (p .origin) m
       go false = refl
 
-  entered-keeps : {A : Type 0} (f : Machine → A) → ((c : ℕ) (d : Machine) → f (enqueue t c d) ≡ f d) → f (carried p m) ≡ f (wrote p m)
+  entered-keeps : {A : Type 0} (f : Machine → A) → ((c : ℕ) (d : Machine) → f (enqueueAt (p .front) t c d) ≡ f d) → f (carried p m) ≡ f (wrote p m)
   entered-keeps f h = go (p .enters)
     where
-      go : (b : Bool) → f (cond b (enqueue t (p .target) (wrote p m)) (wrote p m)) ≡ f (wrote p m)
+      go : (b : Bool) → f (cond b (enqueueAt (p .front) t (p .target) (wrote p m)) (wrote p m)) ≡ f (wrote p m)
       go true = h (p .target) (wrote p m)
       go false = refl
 
@@ -143,7 +143,7 @@ module _ {m : Machine} {ss ps qs cs ls ks flat ns fs : List ℕ} {r : Record} {p
 
   -- a column that only the writing changes
   column : (f : Machine → List ℕ) (v : ℕ) → ((d : Machine) → f (write t (p .becomes) d) ≡ set (f d) t v)
-      → ((c : ℕ) (d : Machine) → f (enqueue t c d) ≡ f d) → ((c : ℕ) (d : Machine) → f (dequeue t c d) ≡ f d) → set (f m) t v ≡ f (carried p m)
+      → ((c : ℕ) (d : Machine) → f (enqueueAt (p .front) t c d) ≡ f d) → ((c : ℕ) (d : Machine) → f (dequeue t c d) ≡ f d) → set (f m) t v ≡ f (carried p m)
   column f v fw fe fd = sym (entered-keeps f fe ∙ fw (left p m) ∙ ap (λ (xs : List ℕ). set xs t v) (left-keeps f fd))
 
   -- ---- after it left
@@ -215,7 +215,7 @@ module _ {m : Machine} {ss ps qs cs ls ks flat ns fs : List ℕ} {r : Record} {p
       others : (c : ℕ) → c < m .n → (p .leaves ≡ true → c ≢ p .origin) → (p .enters ≡ true → c ≢ p .target) → level (carried p m) c ≡ level m c
       others c h away apart-from = entered (p .enters) apart-from ∙ level-write t (p .becomes) (left p m) free c ∙ gone (p .leaves) away
         where
-          entered : (b : Bool) → (b ≡ true → c ≢ p .target) → level (cond b (enqueue t (p .target) (wrote p m)) (wrote p m)) c ≡ level (wrote p m) c
+          entered : (b : Bool) → (b ≡ true → c ≢ p .target) → level (cond b (enqueueAt (p .front) t (p .target) (wrote p m)) (wrote p m)) c ≡ level (wrote p m) c
           entered true n = ap (rowLevel (prioOf (wrote p m)) (flag (wrote p m) c)) (row-other (wrote p m) (p .target) c _ (n refl))
           entered false n = refl
 
@@ -254,6 +254,6 @@ module _ {m : Machine} {ss ps qs cs ls ks flat ns fs : List ℕ} {r : Record} {p
           at : {xs ys : List ℕ} (v : ℕ) → xs ≡ ys → set xs t v ≡ set ys t v
           at v q = ap (λ (zs : List ℕ). set zs t v) q
 
-          cpu-is : (b : Bool) → cond b (set (wrote p m .cpu) t (p .target)) (wrote p m .cpu) ≡ cond b (enqueue t (p .target) (wrote p m)) (wrote p m) .cpu
+          cpu-is : (b : Bool) → cond b (set (wrote p m .cpu) t (p .target)) (wrote p m .cpu) ≡ cond b (enqueueAt (p .front) t (p .target) (wrote p m)) (wrote p m) .cpu
           cpu-is true = refl
           cpu-is false = refl

@@ -116,7 +116,16 @@ fn place(
         plan.task as usize,
         becomes,
     );
-    enter_if(plan.enters, rows, counts, prio, cpu, plan.target, plan.task);
+    enter_if(
+        plan.enters,
+        rows,
+        counts,
+        prio,
+        cpu,
+        plan.target, // then its CPU
+        plan.task,
+        plan.front,
+    );
     follow_if(
         plan.leaves,
         rows,

@@ -16,7 +16,7 @@ use rules::task;
 use runqueue::row::PLACES;
 
 // Kind 5. Asleep: the number only. Runnable and unchanged: nothing. Runnable and changed: the task
-// leaves its row and enters it again.
+// leaves its row and stands in it again: raised behind its equals, lowered in front of them.
 pub fn set_priority(named: Task, who: u32, b: u32) -> Decision
     ensures { λ r. ⌜ ((m : Machine) (kind a k : ℕ) → Named m who named → DecidedAs set-priority m (event kind who a b k) r) ⌝ }
 {
@@ -35,11 +35,12 @@ pub fn set_priority(named: Task, who: u32, b: u32) -> Decision
     if named.state != task::RUNNABLE {
         return Decision::Place(Plan::rewrite(who as u16, becomes));
     }
-    if named.prio == b as u8 {
+    if named.prio == becomes.prio {
         return Decision::Nothing;
     }
     let home = named.cpu as usize;
-    Decision::Place(Plan::shift(who as u16, home, becomes, home))
+    let lowered = becomes.prio < named.prio;
+    Decision::Place(Plan::reorder(who as u16, home, becomes, lowered))
 }
 
 // Kind 6. Asleep, or its CPU still allowed: the mask only. Else the task leaves its row and enters that

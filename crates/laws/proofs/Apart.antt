@@ -5,7 +5,7 @@ use mathlib.Core.Path.{_≡_, refl, sym, ap, _∙_, subst}
 use mathlib.Core.Bool.{Bool, true, false, cond, _&&_}
 use mathlib.Core.Logic.{_≢_, _⊎_, inl, inr}
 use mathlib.Core.List.{List, [], _∷_}
-use Prim.Native.Nat.{ℕ, _+_, _≤_, _<_}
+use Prim.Native.Nat.{ℕ, suc, _+_, _≤_, _<_}
 use native.Mathlib.Omega.{arith}
 use lib.Dec.{eqb, ltb}
 use lib.ListN.{length, List·getD-eq-default}
@@ -13,7 +13,7 @@ use borrow.Author.Tests.{eq-eqb, ne-eqb, ltb-true, ltb-false}
 use Rattle.bits.specs.Bit.{digit}
 use Rattle.rules.specs.Lists.{occ, In, Falling, insertBefore, delete}
 use Rattle.rules.specs.Machine.{Machine, Task, Column, taskOf, freeTask, prioOf, row, flag, allowed, allows, runnable, taskPlaces}
-use Rattle.rules.specs.Machine.{store, write, withRow, queued, enqueue, dequeue}
+use Rattle.rules.specs.Machine.{store, write, withRow, queued, entryKey, enqueueAt, enqueue, dequeue}
 use Rattle.rules.specs.WellFormed.{Shape, Fit, Sound, is-free, is-asleep, is-runnable, standing, WellFormed}
 use Rattle.laws.proofs.Lists.{same?, digit-same, digit-other, occ-cons, in-cons, not-in-nil, occ-insert, occ-delete}
 use Rattle.laws.proofs.Lists.{falling-delete, falling-head, falling-cong, pigeonhole}
@@ -298,28 +298,43 @@ module _ (t c : ℕ) (m : Machine) (p : Apart t m) (place : t < taskPlaces) (fit
       home u h (inr n) =
           subst (λ (τ : Task). τ .state ≡ runnable → allows m (τ .mask) (τ .cpu) ≡ true) (sym (old u n)) (p .home u n) h
 
--- the paper's entering joins rightly
-pub queued-joins : (p : ℕ → ℕ) (t : ℕ) (r : List ℕ) → Falling p r → Joins p t r (queued p t r)
+-- one that is queued joins rightly, in front of its equals or behind them
+pub queued-joins : (front : Bool) (p : ℕ → ℕ) (t : ℕ) (r : List ℕ) → Falling p r → Joins p t r (queued (entryKey front (p t)) p t r)
 unfolding insertBefore
-queued-joins p t r f = record { occurs = λ u. occ-insert (λ v. ltb (p v) (p t)) t u r; falling = sorted r f }
+queued-joins front p t r f = record { occurs = λ u. occ-insert test t u r; falling = sorted r f }
   where
+    k : ℕ
+    k = entryKey front (p t)
+
+    beside : (p t ≤ k) × (k ≤ suc (p t))
+    beside = go front
+      where
+        go : (b : Bool) → (p t ≤ entryKey b (p t)) × (entryKey b (p t) ≤ suc (p t))
+        go true = (omega arith, omega arith)
+        go false = (omega arith, omega arith)
+
     test : ℕ → Bool
-    test v = ltb (p v) (p t)
+    test v = ltb (p v) k
 
     sorted : (r : List ℕ) → Falling p r → Falling p (insertBefore test t r)
     sorted [] f = (λ u i. absurd (not-in-nil u i), tt)
     sorted (y ∷ ys) f = go (test y) refl (sorted ys (f .1))
       where
         go : (b : Bool) → test y ≡ b → Falling p (insertBefore test t ys) → Falling p (cond b (t ∷ y ∷ ys) (y ∷ insertBefore test t ys))
-        go true e ih = (λ u i. let top : p u ≤ p y = falling-head p y ys f u i in omega (arith, ltb-true (p y) (p t) e), f)
+        go true e ih = (λ u i. let top : p u ≤ p y = falling-head p y ys f u i in omega (arith, ltb-true (p y) k e, beside .1), f)
         go false e ih = (λ u i. behind u (same? u t) i, ih)
           where
             behind : (u : ℕ) → (u ≡ t) ⊎ (u ≢ t) → In u (insertBefore test t ys) → p u ≤ p y
-            behind u (inl s) i = let q : p u ≡ p t = ap p s in omega (arith, ltb-false (p y) (p t) e)
+            behind u (inl s) i = let q : p u ≡ p t = ap p s in omega (arith, ltb-false (p y) k e, beside .0)
             behind u (inr n) i = f .0 u (omega (arith, occ-insert test t u ys, digit-other u t n))
+
+pub rejoin-at : (front : Bool) (t c : ℕ) (m : Machine) → Apart t m → t < taskPlaces → Fit (m .n) (taskOf m t) → taskOf m t .state ≡ runnable → c < m .n
+    → allows m (taskOf m t .mask) c ≡ true → WellFormed (enqueueAt front t c m)
+rejoin-at front t c m p place fit runs small may =
+    rejoin-row t c m p place fit runs small may (queued (entryKey front (prioOf m t)) (prioOf m) t (row m c))
+    (queued-joins front (prioOf m) t (row m c) (p .falling c))
 
 -- the rule's entering
 pub rejoin-enqueue : (t c : ℕ) (m : Machine) → Apart t m → t < taskPlaces → Fit (m .n) (taskOf m t) → taskOf m t .state ≡ runnable → c < m .n
     → allows m (taskOf m t .mask) c ≡ true → WellFormed (enqueue t c m)
-rejoin-enqueue t c m p place fit runs small may =
-    rejoin-row t c m p place fit runs small may (queued (prioOf m) t (row m c)) (queued-joins (prioOf m) t (row m c) (p .falling c))
+rejoin-enqueue = rejoin-at false

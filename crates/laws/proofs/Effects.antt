@@ -16,14 +16,14 @@ use Rattle.cpupri.specs.Found.{maskFits}
 use Rattle.rules.specs.Lists.{occ, In, Falling}
 use Rattle.rules.specs.Machine.{Machine, Task, Column, taskOf, freeTask, prioOf, row, flag, allowed, allows, lowestAllowed, fresh}
 use Rattle.rules.specs.Machine.{free, asleep, runnable, fifo, rr, taskPlaces, cpuPlaces, fullSlice, lowestPriority, highestPriority}
-use Rattle.rules.specs.Machine.{store, write, withFlag, enqueue, dequeue, requeue}
+use Rattle.rules.specs.Machine.{store, write, withFlag, enqueueAt, enqueue, dequeue, requeue}
 use Rattle.rules.specs.WellFormed.{Shape, Fit, Sound, is-free, is-asleep, is-runnable, standing, WellFormed}
 use Rattle.rules.specs.Events.{Event, Kind, effect, effectOf, added, wakeCpu, woken, slept, reprioritised, reaffined, tickedTask, ticked, yielded, toFirst}
 use Rattle.rules.specs.Events.{add, remove, wake, sleep, set-priority, set-affinity, tick, yield, set-ordinary}
 use Rattle.rules.specs.Refusals.{Passes, checks, refusal}
 use Rattle.laws.proofs.Lists.{same?, in-here}
 use Rattle.laws.proofs.Rows.{put, store-other, store-same, write-same, shape-store}
-use Rattle.laws.proofs.Apart.{Apart, apart-idle, apart-dequeue, apart-store, apart-write, rejoin-idle, rejoin-enqueue}
+use Rattle.laws.proofs.Apart.{Apart, apart-idle, apart-dequeue, apart-store, apart-write, rejoin-idle, rejoin-at, rejoin-enqueue}
 use Rattle.laws.proofs.Apart.{fit-of, runnable-place, runnable-fit, in-row}
 use Rattle.laws.proofs.Checks.{Accepted, accepted-checks, effect-is, in-range, is-state, between, one-of, mask-good}
 
@@ -261,9 +261,10 @@ module _ (t : ℕ) (m : Machine) (w : WellFormed m) (place : t < taskPlaces) whe
     pub apart-prio : (v : ℕ) → Apart t (store Column.prio t v (dequeue t home m))
     apart-prio v = apart-store t (dequeue t home m) apart-home Column.prio v
 
-    keep-prio : (v : ℕ) → lowestPriority ≤ v → v ≤ highestPriority → WellFormed (enqueue t home (store Column.prio t v (dequeue t home m)))
-    keep-prio v low high =
-        rejoin-enqueue t home (store Column.prio t v (dequeue t home m)) (apart-prio v) place
+    keep-prio : (front : Bool) (v : ℕ) → lowestPriority ≤ v → v ≤ highestPriority
+        → WellFormed (enqueueAt front t home (store Column.prio t v (dequeue t home m)))
+    keep-prio front v low high =
+        rejoin-at front t home (store Column.prio t v (dequeue t home m)) (apart-prio v) place
         (subst (Fit (m .n)) (sym new) (fit-prio (m .n) v (taskOf m t) fit low high)) runs (fit .cpu) (w .home t runs)
       where
         new : taskOf (store Column.prio t v (dequeue t home m)) t ≡ put Column.prio v (taskOf m t)
@@ -294,13 +295,16 @@ module _ (t : ℕ) (m : Machine) (w : WellFormed m) (place : t < taskPlaces) whe
   keep-reprioritised : (v : ℕ) → taskOf m t .state ≢ free → lowestPriority ≤ v → v ≤ highestPriority → WellFormed (reprioritised t v m)
   keep-reprioritised v used low high = go (eqb (taskOf m t .state) runnable) refl
     where
+      lowered : Bool
+      lowered = ltb v (taskOf m t .prio)
+
       changed : (b : Bool) → taskOf m t .state ≡ runnable
-          → WellFormed (cond b m (enqueue t (taskOf m t .cpu) (store Column.prio t v (dequeue t (taskOf m t .cpu) m))))
+          → WellFormed (cond b m (enqueueAt lowered t (taskOf m t .cpu) (store Column.prio t v (dequeue t (taskOf m t .cpu) m))))
       changed true s = w
-      changed false s = keep-prio t m w place s v low high
+      changed false s = keep-prio t m w place s lowered v low high
 
       go : (b : Bool) → eqb (taskOf m t .state) runnable ≡ b
-          → WellFormed (cond b (cond (eqb (taskOf m t .prio) v) m (enqueue t (taskOf m t .cpu) (store Column.prio t v (dequeue t (taskOf m t .cpu) m)))) (store Column.prio t v m))
+          → WellFormed (cond b (cond (eqb (taskOf m t .prio) v) m (enqueueAt lowered t (taskOf m t .cpu) (store Column.prio t v (dequeue t (taskOf m t .cpu) m)))) (store Column.prio t v m))
       go true e = changed (eqb (taskOf m t .prio) v) (eqb-true (taskOf m t .state) runnable e)
       go false e =
           idle-prio t m w place v (eqb-false (taskOf m t .state) runnable e)

@@ -6,14 +6,14 @@ use mathlib.Core.Bool.{Bool, true, false, cond, not, _&&_}
 use mathlib.Core.List.{List, [], _∷_}
 use Prim.Native.Nat.{ℕ, zero, suc, _-_, _*_, _≤_}
 use native.Mathlib.Omega.{arith}
-use lib.Dec.{eqb}
+use lib.Dec.{eqb, ltb}
 use lib.ListN.{length, replicate, length-map, length-replicate}
 use borrow.Author.Tests.{eqb-true, eq-eqb, not-false}
 use Rattle.bits.proofs.Tests.{and-both}
 use Rattle.cpupri.specs.Record.{recordOf, freshLevels}
 use Rattle.levels.specs.declared.record.Record.{Record}
 use Rattle.rules.specs.Machine.{Machine, Column, taskOf, row, fresh, levels, taskPlaces, cpuPlaces, runnable, rr, fullSlice}
-use Rattle.rules.specs.Machine.{allows, lowestAllowed, store, enqueue, dequeue, requeue}
+use Rattle.rules.specs.Machine.{allows, lowestAllowed, store, enqueueAt, enqueue, dequeue, requeue}
 use Rattle.rules.specs.WellFormed.{Shape, WellFormed, wellFormed}
 use Rattle.rules.specs.Events.{Event, Kind, effect, effectOf, tickedTask, toFirst}
 use Rattle.rules.specs.Events.{add, remove, wake, sleep, set-priority, set-affinity, tick, yield, set-ordinary}
@@ -211,7 +211,7 @@ effect-n sleep e m = refl
 effect-n set-priority e m =
     let t = e .who in
     three-n (eqb (taskOf m t .state) runnable) (eqb (taskOf m t .prio) (e .b)) m
-    (enqueue t (taskOf m t .cpu) (store Column.prio t (e .b) (dequeue t (taskOf m t .cpu) m))) (store Column.prio t (e .b) m) (m .n) refl refl refl
+    (enqueueAt (ltb (e .b) (taskOf m t .prio)) t (taskOf m t .cpu) (store Column.prio t (e .b) (dequeue t (taskOf m t .cpu) m))) (store Column.prio t (e .b) m) (m .n) refl refl refl
 effect-n set-affinity e m =
     let t = e .who in
     three-n (eqb (taskOf m t .state) runnable) (allows m (e .mask) (taskOf m t .cpu)) (store Column.mask t (e .mask) m)

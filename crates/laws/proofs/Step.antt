@@ -108,11 +108,11 @@ module _ (m : Machine) (v : Move) (w : WellFormed m) (k : Chosen m v) where
   pub target-row : row moved (v .target) ≡ t ∷ row m (v .target)
   unfolding insertBefore
   target-row =
-      row-same (dequeue t (v .origin) m) (v .target) (queued (prioOf m) t (row (dequeue t (v .origin) m) (v .target))) (left-long (v .target) (k .small))
-      ∙ ap (queued (prioOf m) t) (row-other m (v .origin) (v .target) (delete t (row m (v .origin))) apart)
+      row-same (dequeue t (v .origin) m) (v .target) (queued (prioOf m t) (prioOf m) t (row (dequeue t (v .origin) m) (v .target))) (left-long (v .target) (k .small))
+      ∙ ap (queued (prioOf m t) (prioOf m) t) (row-other m (v .origin) (v .target) (delete t (row m (v .origin))) apart)
       ∙ front (row m (v .target)) (k .below)
     where
-      front : (r : List ℕ) → rowLevel (prioOf m) (flag m (v .target)) r < levelOf (prioOf m t) → queued (prioOf m) t r ≡ t ∷ r
+      front : (r : List ℕ) → rowLevel (prioOf m) (flag m (v .target)) r < levelOf (prioOf m t) → queued (prioOf m t) (prioOf m) t r ≡ t ∷ r
       front [] h = refl
       front (y ∷ ys) h =
           ap (λ (b : Bool). cond b (t ∷ y ∷ ys) (y ∷ insertBefore (λ u. ltb (prioOf m u) (prioOf m t)) t ys))
@@ -120,12 +120,12 @@ module _ (m : Machine) (v : Move) (w : WellFormed m) (k : Chosen m v) where
 
   pub left-row : row moved (v .origin) ≡ delete t (row m (v .origin))
   left-row =
-      row-other (dequeue t (v .origin) m) (v .target) (v .origin) (queued (prioOf m) t (row (dequeue t (v .origin) m) (v .target))) (λ e. apart (sym e))
+      row-other (dequeue t (v .origin) m) (v .target) (v .origin) (queued (prioOf m t) (prioOf m) t (row (dequeue t (v .origin) m) (v .target))) (λ e. apart (sym e))
       ∙ row-same m (v .origin) (delete t (row m (v .origin))) (rows-long (v .origin) origin-small)
 
   pub other-row : (c : ℕ) → c ≢ v .target → c ≢ v .origin → row moved c ≡ row m c
   other-row c n o =
-      row-other (dequeue t (v .origin) m) (v .target) c (queued (prioOf m) t (row (dequeue t (v .origin) m) (v .target))) n
+      row-other (dequeue t (v .origin) m) (v .target) c (queued (prioOf m t) (prioOf m) t (row (dequeue t (v .origin) m) (v .target))) n
       ∙ row-other m (v .origin) c (delete t (row m (v .origin))) o
 
   -- the mover runs on its destination, and elsewhere the same tasks run as before

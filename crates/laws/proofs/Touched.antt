@@ -12,7 +12,7 @@ use lib.ListN.{length, getD}
 use lib.Seq.{set-out}
 use borrow.Author.Tests.{ltb-true, ltb-false, lt-ltb, eqb-true, eq-eqb, ne-eqb}
 use Rattle.rules.specs.Lists.{occ, In, Falling, insertBefore, delete}
-use Rattle.rules.specs.Machine.{Machine, Task, Column, taskOf, prioOf, row, flag, head, running, rowLevel, level, levelOf, allowed, allows, runnable, store, write, withRow, withFlag, queued, enqueue, dequeue}
+use Rattle.rules.specs.Machine.{Machine, Task, Column, taskOf, prioOf, row, flag, head, running, rowLevel, level, levelOf, allowed, allows, runnable, store, write, withRow, withFlag, queued, entryKey, enqueueAt, dequeue}
 use Rattle.rules.specs.WellFormed.{WellFormed}
 use Rattle.rules.specs.Migration.{waiting, movable, next}
 use Rattle.rules.specs.Plan.{Plan, left, wrote, carried, When, Doable}
@@ -388,13 +388,13 @@ touches-row t c r m h =
 pub touches-dequeue : (t c : ℕ) (m : Machine) → occ t (row m c) ≤ 1 → Touches t m (dequeue t c m)
 touches-dequeue t c m h = touches-row t c (delete t (row m c)) m (delete-twice t (row m c) h)
 
-pub touches-enqueue : (t c : ℕ) (m : Machine) → occ t (row m c) ≡ 0 → Touches t m (enqueue t c m)
-touches-enqueue t c m h =
-    touches-both t m (withRow c r m) (enqueue t c m) (touches-row t c r m (delete-insert (λ u. ltb (prioOf m u) (prioOf m t)) t (row m c) out ∙ sym (delete-absent t (row m c) out)))
+pub touches-enqueue : (front : Bool) (t c : ℕ) (m : Machine) → occ t (row m c) ≡ 0 → Touches t m (enqueueAt front t c m)
+touches-enqueue front t c m h =
+    touches-both t m (withRow c r m) (enqueueAt front t c m) (touches-row t c r m (delete-insert (λ u. ltb (prioOf m u) (entryKey front (prioOf m t))) t (row m c) out ∙ sym (delete-absent t (row m c) out)))
     (touches-store t Column.cpu c (withRow c r m))
   where
     r : List ℕ
-    r = queued (prioOf m) t (row m c)
+    r = queued (entryKey front (prioOf m t)) (prioOf m) t (row m c)
 
     out : In t (row m c) → ⊥
     out i = omega (arith, h)
@@ -436,10 +436,10 @@ module _ (m : Machine) (p : Plan) (w : WellFormed m) (d : Doable m p) where
   pub touches-carried : Touches t m (carried p m)
   touches-carried = go (p .enters) refl
     where
-      go : (b : Bool) → p .enters ≡ b → Touches t m (cond b (enqueue t (p .target) (wrote p m)) (wrote p m))
+      go : (b : Bool) → p .enters ≡ b → Touches t m (cond b (enqueueAt (p .front) t (p .target) (wrote p m)) (wrote p m))
       go true e =
-          touches-both t m (wrote p m) (enqueue t (p .target) (wrote p m)) touches-wrote
-          (touches-enqueue t (p .target) (wrote p m) (absent (p .target) e))
+          touches-both t m (wrote p m) (enqueueAt (p .front) t (p .target) (wrote p m)) touches-wrote
+          (touches-enqueue (p .front) t (p .target) (wrote p m) (absent (p .target) e))
       go false e = touches-wrote
 
 -- ---- no task is touched

@@ -9,7 +9,7 @@ use borrow.Author.Tests.{not-true, not-false}
 use Rattle.cpupri.specs.Record.{recordOf, Whole}
 use Rattle.levels.specs.declared.record.Record.{Record}
 use Rattle.rules.specs.Lists.{In}
-use Rattle.rules.specs.Machine.{Machine, prioOf, row, level, levels, enqueue, dequeue, taskPlaces, highestPriority}
+use Rattle.rules.specs.Machine.{Machine, prioOf, row, level, levels, enqueueAt, dequeue, taskPlaces, highestPriority}
 use Rattle.rules.specs.Plan.{When}
 use Rattle.placement.specs.Held.{Queues, Entering, Following, followed}
 use Rattle.placement.proofs.Following.{still-whole}
@@ -27,8 +27,8 @@ module _ {b : Bool} {m : Machine} {ns flat : List ℕ} {t c : ℕ} (l : LeavingI
     has-left {ns′} {flat′} h = subst (λ (x : Bool). Queues (cond x (dequeue t c m) m) ns′ flat′) (sym (not-false b e)) h
 
 module _ {b : Bool} {m : Machine} {qs ns flat : List ℕ} {t c : ℕ} (l : EnteringIf b m qs ns flat t c) where
-  pub not-entered : not b ≡ true → Queues (cond b (enqueue t c m) m) ns flat
-  not-entered e = subst (λ (x : Bool). Queues (cond x (enqueue t c m) m) ns flat) (sym (not-true b e)) (l .queues)
+  pub not-entered : (front : Bool) → not b ≡ true → Queues (cond b (enqueueAt front t c m) m) ns flat
+  not-entered front e = subst (λ (x : Bool). Queues (cond x (enqueueAt front t c m) m) ns flat) (sym (not-true b e)) (l .queues)
 
   module _ (e : not b ≡ false) where
     pub may-enter : Entering m qs ns flat (recordOf (levels m)) t c
@@ -44,8 +44,8 @@ module _ {b : Bool} {m : Machine} {qs ns flat : List ℕ} {t c : ℕ} (l : Enter
           room = h .2;
         }
 
-    pub has-entered : {ns′ flat′ : List ℕ} → Queues (enqueue t c m) ns′ flat′ → Queues (cond b (enqueue t c m) m) ns′ flat′
-    has-entered {ns′} {flat′} h = subst (λ (x : Bool). Queues (cond x (enqueue t c m) m) ns′ flat′) (sym (not-false b e)) h
+    pub has-entered : (front : Bool) {ns′ flat′ : List ℕ} → Queues (enqueueAt front t c m) ns′ flat′ → Queues (cond b (enqueueAt front t c m) m) ns′ flat′
+    has-entered front {ns′} {flat′} h = subst (λ (x : Bool). Queues (cond x (enqueueAt front t c m) m) ns′ flat′) (sym (not-false b e)) h
 
 module _ {b : Bool} {m : Machine} {qs fs ns flat : List ℕ} {c : ℕ} (l : FollowingIf b m qs fs ns flat c) {r : Record} (whole : Whole r) where
   pub not-followed : not b ≡ true → r ≡ recordOf (followed b c m (r .levels))

@@ -5,7 +5,7 @@ ghost use lib.ListN.{length, set};
 ghost use Rattle.bits.specs.Moments.{old, new};
 ghost use Rattle.cpupri.specs.Record.{recordOf, Whole};
 ghost use Rattle.levels.specs.Lent.{nowRecord, oldRecord, newRecord};
-ghost use Rattle.rules.specs.Machine.{Machine, taskPlaces, levels as levelsOf, withFlag, enqueue, dequeue};
+ghost use Rattle.rules.specs.Machine.{Machine, taskPlaces, levels as levelsOf, withFlag, enqueueAt, dequeue};
 ghost use Rattle.placement.specs.Held.{Queues, followed};
 ghost use Rattle.parts.specs.Optional.{LeavingIf, EnteringIf, FollowingIf, Flagging};
 use cpupri::record::CPUS;
@@ -24,7 +24,7 @@ pub fn leave_if(leaves: bool, rows: &mut [u16], counts: &mut [u16], cpu: usize, 
     runqueue::table::dequeue(rows, counts, cpu, task);
 }
 
-// The task enters the row, if it is to, and the row's CPU is then its CPU.
+// The task enters the row, if it is to, in front of its equals or behind them, and the row's CPU is then its CPU.
 pub fn enter_if(
     enters: bool,
     rows: &mut [u16],
@@ -33,17 +33,18 @@ pub fn enter_if(
     cpus: &mut [u8],
     cpu: usize,
     task: u16,
+    front: bool,
 )
     requires { ⌜ ((m : Machine) × EnteringIf enters m (now prio) (now counts) (now rows) task cpu) ⌝ }
     requires { ⌜ length (now cpus) ≡ taskPlaces ⌝ }
     ensures { λ u. ⌜ ((m : Machine) → EnteringIf enters m (old prio) (old counts) (old rows) task cpu
-        → Queues (cond enters (enqueue task cpu m) m) (new counts) (new rows)) ⌝
+        → Queues (cond enters (enqueueAt front task cpu m) m) (new counts) (new rows)) ⌝
         ∗ ⌜ new cpus ≡ cond enters (set (old cpus) task cpu) (old cpus) ⌝ }
 {
     if !enters {
         return;
     }
-    runqueue::table::enqueue(rows, counts, prio, cpu, task);
+    runqueue::table::enqueue(rows, counts, prio, cpu, task, front);
     cpus[task as usize] = cpu as u8;
 }
 

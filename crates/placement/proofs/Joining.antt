@@ -1,14 +1,15 @@
 -- A task leaves or enters a row of the lent tables: what that needs, and what the tables then hold.
 -- Assumes nothing.
 use mathlib.Core.Path.{_≡_, refl, sym, ap, _∙_, subst}
+use mathlib.Core.Bool.{Bool}
 use mathlib.Core.List.{List}
-use Prim.Native.Nat.{ℕ, _<_}
+use Prim.Native.Nat.{ℕ, _≤_, _<_}
 use native.Mathlib.Omega.{arith}
 use lib.ListN.{length, getD}
 use Rattle.cpupri.specs.Record.{recordOf}
 use Rattle.levels.specs.declared.record.Record.{Record}
 use Rattle.rules.specs.Lists.{In, Falling, delete}
-use Rattle.rules.specs.Machine.{Machine, prioOf, row, levels, withRow, queued, enqueue, dequeue, taskPlaces}
+use Rattle.rules.specs.Machine.{Machine, row, levels, withRow, queued, entryKey, enqueueAt, dequeue, taskPlaces, highestPriority}
 use Rattle.rules.specs.Tables.{flatOf, rowCounts}
 use Rattle.runqueue.specs.Table.{HoldsRows, Joinable, rowAt, rowsWith}
 use Rattle.placement.specs.Held.{Held, Entering}
@@ -43,7 +44,8 @@ module _ (m : Machine) {ps ks flat : List ℕ} {r : Record} {t c : ℕ} (l : Ent
       (subst (λ (qs : List ℕ). Falling (λ (u : ℕ). getD qs u 0) (row m c)) (sym (l .held .prio)) (l .held .order .falling c))
 
   -- what `runqueue::table::enqueue` asks
-  pub can-enter : HoldsRows ks flat × ((c < length ks) × ((t < taskPlaces) × ((length ps ≡ taskPlaces) × Joinable ps (rowAt ks flat c))))
+  pub can-enter : HoldsRows ks flat
+      × ((c < length ks) × ((t < taskPlaces) × ((length ps ≡ taskPlaces) × ((getD ps t 0 ≤ highestPriority) × Joinable ps (rowAt ks flat c)))))
   can-enter = (
     holds m ps ks flat r (l .held),
     (
@@ -52,23 +54,30 @@ module _ (m : Machine) {ps ks flat : List ℕ} {r : Record} {t c : ℕ} (l : Ent
         l .task,
         (
           ap length (l .held .prio) ∙ l .held .order .prios,
-          record {
-            room = subst (λ (q : List ℕ). length q < taskPlaces) (sym row-is) (l .room);
-            tasks = λ u i. above m ps ks flat r (l .held) c u i .0;
-            falling = joinable;
-          },
+          (
+            subst (λ (qs : List ℕ). getD qs t 0 ≤ highestPriority) (sym (l .held .prio)) (l .high),
+            record {
+              room = subst (λ (q : List ℕ). length q < taskPlaces) (sym row-is) (l .room);
+              tasks = λ u i. above m ps ks flat r (l .held) c u i .0;
+              falling = joinable;
+            },
+          ),
         ),
       ),
     ),
   )
 
-  same-queue : queued (λ (u : ℕ). getD ps u 0) t (rowAt ks flat c) ≡ queued (prioOf m) t (row m c)
-  same-queue = ap (λ (qs : List ℕ). queued (λ (u : ℕ). getD qs u 0) t (rowAt ks flat c)) (l .held .prio) ∙ ap (queued (prioOf m) t) row-is
+  -- in front of its equals or behind them
+  abbrev joins : Bool → List ℕ → List ℕ → List ℕ
+  joins front qs q = queued (entryKey front (getD qs t 0)) (λ (u : ℕ). getD qs u 0) t q
 
-  pub has-entered : {ks′ flat′ : List ℕ} → flat′ ≡ flatOf (rowsWith ks flat c (queued (λ (u : ℕ). getD ps u 0) t (rowAt ks flat c)))
-      → ks′ ≡ rowCounts (rowsWith ks flat c (queued (λ (u : ℕ). getD ps u 0) t (rowAt ks flat c)))
-      → Held (enqueue t c m) ps ks′ flat′ (recordOf (levels (enqueue t c m)))
-  has-entered {ks′} {flat′} ef ek =
+  same-queue : (front : Bool) → joins front ps (rowAt ks flat c) ≡ joins front (m .prio) (row m c)
+  same-queue front = ap (λ (qs : List ℕ). joins front qs (rowAt ks flat c)) (l .held .prio) ∙ ap (joins front (m .prio)) row-is
+
+  pub has-entered : (front : Bool) {ks′ flat′ : List ℕ} → flat′ ≡ flatOf (rowsWith ks flat c (joins front ps (rowAt ks flat c)))
+      → ks′ ≡ rowCounts (rowsWith ks flat c (joins front ps (rowAt ks flat c)))
+      → Held (enqueueAt front t c m) ps ks′ flat′ (recordOf (levels (enqueueAt front t c m)))
+  has-entered front {ks′} {flat′} ef ek =
       record {
         order = record {
           cpus = h .order .cpus;
@@ -88,11 +97,11 @@ module _ (m : Machine) {ps ks flat : List ℕ} {r : Record} {t c : ℕ} (l : Ent
     where
       -- entering sets the CPU column besides
       entered : Machine
-      entered = withRow c (queued (prioOf m) t (row m c)) m
+      entered = withRow c (joins front (m .prio) (row m c)) m
 
       h : Held entered ps ks′ flat′ (recordOf (levels entered))
       h =
-          held-row m ps ks flat r c (queued (prioOf m) t (row m c)) (l .held) (l .cpu)
-          (fine-queued m t c (l .held .order) (l .task) (l .high) (l .room)) ks′ flat′
-          (ek ∙ ap (λ (q : List ℕ). rowCounts (rowsWith ks flat c q)) same-queue)
-          (ef ∙ ap (λ (q : List ℕ). flatOf (rowsWith ks flat c q)) same-queue)
+          held-row m ps ks flat r c (joins front (m .prio) (row m c)) (l .held) (l .cpu)
+          (fine-queued m front t c (l .held .order) (l .task) (l .high) (l .room)) ks′ flat′
+          (ek ∙ ap (λ (q : List ℕ). rowCounts (rowsWith ks flat c q)) (same-queue front))
+          (ef ∙ ap (λ (q : List ℕ). flatOf (rowsWith ks flat c q)) (same-queue front))

@@ -1,6 +1,7 @@
 -- Machines whose run queues are in order: well-formed ones, and ones from whose rows a task has been taken.
 -- Assumes nothing.
 use mathlib.Core.Path.{_≡_, refl, sym, ap, _∙_, subst}
+use mathlib.Core.Bool.{Bool}
 use mathlib.Core.Logic.{_≢_, _⊎_, inl, inr}
 use mathlib.Core.List.{List, [], _∷_}
 use Prim.Native.Nat.{ℕ, _*_, _≤_, _<_}
@@ -11,7 +12,7 @@ use lib.ListN.{length, getD, set, length-set, length-map}
 use Rattle.cpupri.specs.Record.{recordOf, Whole}
 use Rattle.levels.specs.declared.record.Record.{Record}
 use Rattle.rules.specs.Lists.{In, Falling, delete}
-use Rattle.rules.specs.Machine.{Machine, taskOf, prioOf, row, flag, levels, rowLevel, levelOf, queued, withRow, taskPlaces, highestPriority}
+use Rattle.rules.specs.Machine.{Machine, taskOf, prioOf, row, flag, levels, rowLevel, levelOf, queued, entryKey, withRow, taskPlaces, highestPriority}
 use Rattle.rules.specs.Tables.{rowsOf, flatOf, rowCounts}
 use Rattle.rules.specs.WellFormed.{WellFormed, Fit}
 use Rattle.laws.proofs.Apart.{Apart, in-row, in-other, in-place, room, queued-joins, standing-means, runnable-fit, runnable-place, fit-of}
@@ -142,20 +143,24 @@ fine-delete m t c o i =
       falling = falling-delete (prioOf m) t (row m c) (o .falling c);
     }
 
-pub fine-queued : (m : Machine) (t c : ℕ) → InOrder m → t < taskPlaces → prioOf m t ≤ highestPriority → length (row m c) < taskPlaces
-    → Fine m (queued (prioOf m) t (row m c))
-fine-queued m t c o ht hp room =
+pub fine-queued : (m : Machine) (front : Bool) (t c : ℕ) → InOrder m → t < taskPlaces → prioOf m t ≤ highestPriority → length (row m c) < taskPlaces
+    → Fine m (queued (entryKey front (prioOf m t)) (prioOf m) t (row m c))
+fine-queued m front t c o ht hp room =
     record {
-      fits = omega (arith, length-insert (λ (u : ℕ). ltb (prioOf m u) (prioOf m t)) t (row m c));
+      fits = omega (arith, length-insert test t (row m c));
       tasks = λ u i. go u (λ (v : ℕ). v < taskPlaces) ht (o .tasks c) (same? u t) i;
       high = λ u i. go u (λ (v : ℕ). prioOf m v ≤ highestPriority) hp (o .high c) (same? u t) i;
-      falling = queued-joins (prioOf m) t (row m c) (o .falling c) .falling;
+      falling = queued-joins front (prioOf m) t (row m c) (o .falling c) .falling;
     }
   where
-    go : (u : ℕ) (P : ℕ → Type 0) → P t → ((v : ℕ) → In v (row m c) → P v) → (u ≡ t) ⊎ (u ≢ t) → In u (queued (prioOf m) t (row m c)) → P u
+    test : ℕ → Bool
+    test u = ltb (prioOf m u) (entryKey front (prioOf m t))
+
+    go : (u : ℕ) (P : ℕ → Type 0) → P t → ((v : ℕ) → In v (row m c) → P v) → (u ≡ t) ⊎ (u ≢ t)
+        → In u (queued (entryKey front (prioOf m t)) (prioOf m) t (row m c)) → P u
     go u P h old (inl e) i = subst P (sym e) h
     go u P h old (inr n) i =
-        old u (omega (arith, occ-insert (λ (v : ℕ). ltb (prioOf m v) (prioOf m t)) t u (row m c), digit-other u t n))
+        old u (omega (arith, occ-insert test t u (row m c), digit-other u t n))
 
 -- ---- a row's level, from its first place
 

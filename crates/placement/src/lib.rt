@@ -42,7 +42,7 @@ pub fn follow(
     set_level(masks, tallies, words, levels, cpu, level);
 }
 
-// The task enters the row of a CPU, which is then its CPU.
+// The task enters the row of a CPU behind its equals, and that is then its CPU.
 pub fn enter(
     rows: &mut [u16],
     counts: &mut [u16],
@@ -64,7 +64,7 @@ pub fn enter(
         → Held (enqueue task cpu m) (old prio) (new counts) (new rows) s) ⌝
         ∗ ⌜ new cpus ≡ set (old cpus) task cpu ⌝ }
 {
-    runqueue::table::enqueue(rows, counts, prio, cpu, task);
+    runqueue::table::enqueue(rows, counts, prio, cpu, task, false);
     cpus[task as usize] = cpu as u8;
     let level = first_level(rows, prio, cpu);
     set_level(masks, tallies, words, levels, cpu, level);

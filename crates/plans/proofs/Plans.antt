@@ -6,18 +6,18 @@ use mathlib.Core.Logic.{_≢_, inl, inr}
 use mathlib.Core.List.{List, [], _∷_}
 use Prim.Native.Nat.{ℕ, _-_, _≤_, _<_, _^_}
 use native.Mathlib.Omega.{arith}
-use lib.Dec.{eqb, leb}
+use lib.Dec.{eqb, leb, ltb}
 use borrow.Author.Tests.{eq-eqb, ne-eqb, le-leb, lt-leb}
 use Rattle.bits.specs.Bit.{bit, first, lowest}
 use Rattle.bits.proofs.Search.{lowest-is, first-before}
 use Rattle.rules.specs.Lists.{In}
-use Rattle.rules.specs.Machine.{Machine, Task, taskOf, row, enqueue, dequeue, requeue, lowestAllowed, free, asleep, runnable, rr, fullSlice, cpuPlaces, taskPlaces, highestPriority}
+use Rattle.rules.specs.Machine.{Machine, Task, taskOf, row, enqueueAt, enqueue, dequeue, requeue, lowestAllowed, free, asleep, runnable, rr, fullSlice, cpuPlaces, taskPlaces, highestPriority}
 use Rattle.rules.specs.WellFormed.{WellFormed, Fit}
 use Rattle.rules.specs.Events.{wakeCpu, woken, slept, reprioritised, reaffined, tickedTask, ticked, yielded, toFirst}
 use Rattle.laws.proofs.Lists.{in-here}
 use Rattle.laws.proofs.Apart.{fit-of, runnable-fit, runnable-place, row-in, in-row}
 use Rattle.laws.proofs.Effects.{lowest-good}
-use Rattle.rules.specs.Plan.{Plan, carried, rewrite, enter, leave, shift, withState, withPrio, withSlice, withMask, Doable, Carries}
+use Rattle.rules.specs.Plan.{Plan, carried, rewrite, enter, leave, shift, reorder, withState, withPrio, withSlice, withMask, Doable, Carries}
 use Rattle.plans.specs.Decided.{Named, Runs, firstOf}
 use Rattle.plans.specs.declared.plan.Task.{Task as Columns}
 use Rattle.plans.proofs.Planned.{write-self, write-state, write-prio, write-slice, write-mask}
@@ -63,6 +63,15 @@ module _ {m : Machine} {t : ℕ} {τ : Columns} (l : Named m t τ) where
           leaves = (runnable-fit m t (l .formed) s .cpu, row-in m t (l .formed) s);
           stays = tt;
           enters = (hd, hp);
+        }
+
+    pub reordered : (front : Bool) (σ : Task) → taskOf m t .state ≡ runnable → σ .prio ≤ highestPriority → Doable m (reorder front t (taskOf m t .cpu) σ)
+    reordered front σ s hp =
+        record {
+          task = ht;
+          leaves = (runnable-fit m t (l .formed) s .cpu, row-in m t (l .formed) s);
+          stays = tt;
+          enters = (runnable-fit m t (l .formed) s .cpu, hp);
         }
 
     -- kinds 1 and 2
@@ -125,11 +134,13 @@ module _ {m : Machine} {t : ℕ} {τ : Columns} (l : Named m t τ) where
       priority-same s e =
           rw (is-in runnable s, eq-eqb (taskOf m t .prio) p (ap (λ (x : Task). x .prio) (sym (l .columns)) ∙ e))
 
-      pub priority-moved : τ .state ≡ runnable → τ .prio ≢ p → p ≤ highestPriority → Carries (reprioritised t p m) m (shift t (taskOf m t .cpu) (withPrio p (taskOf m t)) (taskOf m t .cpu))
+      pub priority-moved : τ .state ≡ runnable → τ .prio ≢ p → p ≤ highestPriority
+          → Carries (reprioritised t p m) m (reorder (ltb p (taskOf m t .prio)) t (taskOf m t .cpu) (withPrio p (taskOf m t)))
       priority-moved s n hp =
           record {
-            effect = rw (is-in runnable s, ne-eqb (taskOf m t .prio) p (λ e. n (ap (λ (x : Task). x .prio) (l .columns) ∙ e))) (ap (enqueue t (taskOf m t .cpu)) (sym (write-prio t p (dequeue t (taskOf m t .cpu) m))));
-            doable = shifted (withPrio p (taskOf m t)) (taskOf m t .cpu) (state-is s) (runnable-fit m t (l .formed) (state-is s) .cpu) hp;
+            effect = rw (is-in runnable s, ne-eqb (taskOf m t .prio) p (λ e. n (ap (λ (x : Task). x .prio) (l .columns) ∙ e)))
+                (ap (enqueueAt (ltb p (taskOf m t .prio)) t (taskOf m t .cpu)) (sym (write-prio t p (dequeue t (taskOf m t .cpu) m))));
+            doable = reordered (ltb p (taskOf m t .prio)) (withPrio p (taskOf m t)) (state-is s) hp;
           }
 
     -- kind 6

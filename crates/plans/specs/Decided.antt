@@ -21,7 +21,7 @@ abbrev pub asTask : Columns → Task
 asTask τ = record { state = τ .state; policy = τ .policy; prio = τ .prio; cpu = τ .cpu; slice = τ .slice; mask = τ .mask }
 
 abbrev pub asPlan : Written → Plan
-asPlan p = record { task = p .task; leaves = p .leaves; origin = p .origin; becomes = asTask (p .becomes); enters = p .enters; target = p .target }
+asPlan p = record { task = p .task; leaves = p .leaves; origin = p .origin; becomes = asTask (p .becomes); enters = p .enters; front = p .front; target = p .target }
 
 -- ---- what is known
 

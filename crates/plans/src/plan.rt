@@ -1,6 +1,6 @@
 // What an event does, decided before anything is written.
 ghost use mathlib.Core.Path.{_≡_};
-ghost use Rattle.rules.specs.Plan.{rewrite as rewriting, enter as entering, leave as leaving, shift as shifting};
+ghost use Rattle.rules.specs.Plan.{rewrite as rewriting, enter as entering, leave as leaving, shift as shifting, reorder as reordering};
 ghost use Rattle.plans.specs.Decided.{asTask, asPlan};
 
 // A task place: its entry in each of the six columns.
@@ -13,14 +13,15 @@ pub struct Task {
     pub mask: u64,
 }
 
-// A task leaves a row or not, its columns are written, and it enters a row or not. Entering sets its
-// CPU besides.
+// A task leaves a row or not, its columns are written, and it enters a row or not, in front of its
+// equals or behind them. Entering sets its CPU besides.
 pub struct Plan {
     pub task: u16,
     pub leaves: bool,
+    pub enters: bool,
     pub origin: usize,
     pub becomes: Task,
-    pub enters: bool,
+    pub front: bool,
     pub target: usize,
 }
 
@@ -42,23 +43,25 @@ impl Plan {
         Plan {
             task,
             leaves: false,
+            enters: false,
             origin: 0,
             becomes,
-            enters: false,
+            front: false,
             target: 0,
         }
     }
 
-    // Into a row.
+    // Into a row, behind its equals.
     pub fn enter(task: u16, becomes: Task, target: usize) -> Plan
         ensures { λ r. ⌜ asPlan r ≡ entering task (asTask becomes) target ⌝ }
     {
         Plan {
             task,
             leaves: false,
+            enters: true,
             origin: 0,
             becomes,
-            enters: true,
+            front: false,
             target,
         }
     }
@@ -70,9 +73,10 @@ impl Plan {
         Plan {
             task,
             leaves: true,
+            enters: false,
             origin,
             becomes,
-            enters: false,
+            front: false,
             target: 0,
         }
     }
@@ -84,10 +88,25 @@ impl Plan {
         Plan {
             task,
             leaves: true,
+            enters: true,
             origin,
             becomes,
-            enters: true,
+            front: false,
             target,
+        }
+    }
+    // To another place in its row, in front of its equals or behind them.
+    pub fn reorder(task: u16, home: usize, becomes: Task, front: bool) -> Plan
+        ensures { λ r. ⌜ asPlan r ≡ reordering front task home (asTask becomes) ⌝ }
+    {
+        Plan {
+            task,
+            leaves: true,
+            enters: true,
+            origin: home,
+            becomes,
+            front,
+            target: home,
         }
     }
 }

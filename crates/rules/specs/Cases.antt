@@ -241,7 +241,7 @@ k10 =
 abbrev pub k11 : List Case
 k11 =
     case 1 (add 0 50 1 ∷ add 1 30 1 ∷ wake 0 ∷ wake 1 ∷ []) (priority 0 30)
-    (gives 0 [] (busy 32 (1 ∷ 0 ∷ []) ∷ []) (runs 0 30 0 1 ∷ runs 1 30 0 1 ∷ []))
+    (gives 0 [] (busy 32 (0 ∷ 1 ∷ []) ∷ []) (runs 0 30 0 1 ∷ runs 1 30 0 1 ∷ []))
     ∷ []
 
 -- a fresh machine of two CPUs refuses

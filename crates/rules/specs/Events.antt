@@ -4,10 +4,10 @@ use mathlib.Core.Bool.{cond}
 use mathlib.Core.List.{List, [], _∷_}
 use mathlib.Core.Option.{Option, none, some}
 use Prim.Native.Nat.{ℕ, zero, suc, _-_}
-use lib.Dec.{eqb}
+use lib.Dec.{eqb, ltb}
 use lib.ListN.{getElem?}
 use Rattle.rules.specs.Machine.{Machine, Task, Column, taskOf, freeTask, row, asleep, runnable, rr, fullSlice}
-use Rattle.rules.specs.Machine.{store, write, withFlag, enqueue, dequeue, requeue, allows, lowestAllowed}
+use Rattle.rules.specs.Machine.{store, write, withFlag, enqueueAt, enqueue, dequeue, requeue, allows, lowestAllowed}
 
 -- five numbers; those that a kind does not use are ignored
 pub record Event : Type 0 where
@@ -55,11 +55,13 @@ woken t m = enqueue t (wakeCpu m t) (store Column.state t runnable m)
 abbrev pub slept : ℕ → Machine → Machine
 slept t m = store Column.state t asleep (dequeue t (taskOf m t .cpu) m)
 
--- asleep: the number only; runnable and changed: leaves, then enters the same row
+-- asleep: the number only; runnable and unchanged: nothing; runnable and raised: leaves, then enters the same row, behind its equals; runnable and
+-- lowered: leaves, then stands in the same row behind every higher priority and before all others of the new one
 abbrev pub reprioritised : ℕ → ℕ → Machine → Machine
 reprioritised t p m =
     cond (eqb (taskOf m t .state) runnable)
-    (cond (eqb (taskOf m t .prio) p) m (enqueue t (taskOf m t .cpu) (store Column.prio t p (dequeue t (taskOf m t .cpu) m))))
+    (cond (eqb (taskOf m t .prio) p) m
+    (enqueueAt (ltb p (taskOf m t .prio)) t (taskOf m t .cpu) (store Column.prio t p (dequeue t (taskOf m t .cpu) m))))
     (store Column.prio t p m)
 
 -- asleep, or its CPU still allowed: the mask only; else it leaves, and enters the row of the lowest-numbered allowed CPU

@@ -1,9 +1,9 @@
 -- The machine: N CPUs, 512 task places, a run queue for each CPU, and the level that each CPU has by what it runs.
 -- Assumes nothing.
-use mathlib.Core.Bool.{Bool}
+use mathlib.Core.Bool.{Bool, false, cond}
 use mathlib.Core.List.{List, [], _∷_, _++_, map}
 use mathlib.Core.Option.{Option, none, some}
-use Prim.Native.Nat.{ℕ, _-_}
+use Prim.Native.Nat.{ℕ, suc, _-_}
 use lib.Dec.{ltb}
 use lib.ListN.{getD, set, replicate}
 use Rattle.bits.specs.Bit.{bit, first}
@@ -179,13 +179,21 @@ withFlag c b m = build (m .n) (m .state) (m .policy) (m .prio) (m .cpu) (m .slic
 
 -- ---- entering and leaving a row
 
--- behind every task of the same or a higher priority and before all lower ones
-abbrev pub queued : (ℕ → ℕ) → ℕ → List ℕ → List ℕ
-queued p t r = insertBefore (λ u. ltb (p u) (p t)) t r
+-- before the first task whose priority is below k, and so behind every one of k or more
+abbrev pub queued : ℕ → (ℕ → ℕ) → ℕ → List ℕ → List ℕ
+queued k p t r = insertBefore (λ u. ltb (p u) k) t r
 
--- task t enters row c, and c is then its CPU
+-- the number by which a task of priority p is queued: in front of its equals, or behind them
+abbrev pub entryKey : Bool → ℕ → ℕ
+entryKey front p = cond front (suc p) p
+
+-- task t stands in row c, in front of its equals or behind them, and c is then its CPU
+abbrev pub enqueueAt : Bool → ℕ → ℕ → Machine → Machine
+enqueueAt front t c m = store cpu t c (withRow c (queued (entryKey front (prioOf m t)) (prioOf m) t (row m c)) m)
+
+-- task t enters row c: behind every task of the same or a higher priority and before all lower ones
 abbrev pub enqueue : ℕ → ℕ → Machine → Machine
-enqueue t c m = store cpu t c (withRow c (queued (prioOf m) t (row m c)) m)
+enqueue t c m = enqueueAt false t c m
 
 -- task t leaves row c
 abbrev pub dequeue : ℕ → ℕ → Machine → Machine

@@ -6,7 +6,7 @@ use mathlib.Core.Bool.{Bool, true, false, cond, not}
 use mathlib.Core.Logic.{_≢_, _⊎_}
 use Prim.Native.Nat.{ℕ, _≤_, _<_}
 use Rattle.rules.specs.Lists.{In}
-use Rattle.rules.specs.Machine.{Machine, Task, taskOf, row, runnable, taskPlaces, highestPriority, write, enqueue, dequeue}
+use Rattle.rules.specs.Machine.{Machine, Task, taskOf, row, runnable, taskPlaces, highestPriority, write, enqueueAt, dequeue}
 
 pub record Plan : Type 0 where
   pub task : ℕ
@@ -15,8 +15,9 @@ pub record Plan : Type 0 where
   pub origin : ℕ
   -- its columns; entering sets its CPU besides
   pub becomes : Task
-  -- it enters row `target`
+  -- it enters, in front of its equals or behind them, row `target`
   pub enters : Bool
+  pub front : Bool
   pub target : ℕ
 
 -- without the task, if it leaves
@@ -29,25 +30,29 @@ wrote p m = write (p .task) (p .becomes) (left p m)
 
 -- and with the task in the row that it enters, if it does
 abbrev pub carried : Plan → Machine → Machine
-carried p m = cond (p .enters) (enqueue (p .task) (p .target) (wrote p m)) (wrote p m)
+carried p m = cond (p .enters) (enqueueAt (p .front) (p .task) (p .target) (wrote p m)) (wrote p m)
 
 -- ---- plans
 
 -- only the columns
 abbrev pub rewrite : ℕ → Task → Plan
-rewrite t τ = record { task = t; leaves = false; origin = 0; becomes = τ; enters = false; target = 0 }
+rewrite t τ = record { task = t; leaves = false; origin = 0; becomes = τ; enters = false; front = false; target = 0 }
 
--- into row d
+-- into row d, behind its equals
 abbrev pub enter : ℕ → Task → ℕ → Plan
-enter t τ d = record { task = t; leaves = false; origin = 0; becomes = τ; enters = true; target = d }
+enter t τ d = record { task = t; leaves = false; origin = 0; becomes = τ; enters = true; front = false; target = d }
 
 -- out of row c
 abbrev pub leave : ℕ → ℕ → Task → Plan
-leave t c τ = record { task = t; leaves = true; origin = c; becomes = τ; enters = false; target = 0 }
+leave t c τ = record { task = t; leaves = true; origin = c; becomes = τ; enters = false; front = false; target = 0 }
 
--- from row c to row d
+-- from row c to row d, behind its equals
 abbrev pub shift : ℕ → ℕ → Task → ℕ → Plan
-shift t c τ d = record { task = t; leaves = true; origin = c; becomes = τ; enters = true; target = d }
+shift t c τ d = record { task = t; leaves = true; origin = c; becomes = τ; enters = true; front = false; target = d }
+
+-- to another place in row c, in front of its equals or behind them
+abbrev pub reorder : Bool → ℕ → ℕ → Task → Plan
+reorder b t c τ = record { task = t; leaves = true; origin = c; becomes = τ; enters = true; front = b; target = c }
 
 -- a task with one column that is new
 abbrev pub withState : ℕ → Task → Task

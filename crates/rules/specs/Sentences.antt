@@ -55,6 +55,8 @@ abbrev pub enteringRow : List Case
 enteringRow =
     case 1 (add 0 50 1 ∷ add 1 40 1 ∷ add 2 30 1 ∷ add 3 40 1 ∷ wake 0 ∷ wake 1 ∷ wake 2 ∷ []) (wake 3)
     (gives 0 [] (busy 52 (0 ∷ 1 ∷ 3 ∷ 2 ∷ []) ∷ []) (runs 0 50 0 1 ∷ runs 1 40 0 1 ∷ runs 2 30 0 1 ∷ runs 3 40 0 1 ∷ []))
+    ∷ case 1 (add 0 41 1 ∷ add 1 39 1 ∷ add 2 40 1 ∷ wake 0 ∷ wake 1 ∷ []) (wake 2)
+    (gives 0 [] (busy 43 (0 ∷ 2 ∷ 1 ∷ []) ∷ []) (runs 0 41 0 1 ∷ runs 1 39 0 1 ∷ runs 2 40 0 1 ∷ []))
     ∷ []
 
 -- "When a task leaves, those behind it close up."
@@ -95,31 +97,69 @@ abbrev pub sleeping : List Case
 sleeping =
     case 2 (addRR 0 20 2 ∷ wake 0 ∷ tick 1 ∷ []) (sleep 0) (gives 0 [] (idleCpu ∷ idleCpu ∷ []) (task 0 asleep rr 20 1 afterTick 2 ∷ [])) ∷ []
 
--- 5, priority: "asleep: the number only"
+-- 5, priority: "asleep: the number only"; lowered, it wakes behind its equal
 abbrev pub prioritisingSleeper : List Case
 prioritisingSleeper =
     case 2 (addRR 0 50 2 ∷ wake 0 ∷ tick 1 ∷ sleep 0 ∷ affinity 0 3 ∷ []) (priority 0 60)
     (gives 0 [] (idleCpu ∷ idleCpu ∷ []) (task 0 asleep rr 60 1 afterTick 3 ∷ []))
+    ∷ case 1 (add 0 30 1 ∷ add 1 50 1 ∷ wake 0 ∷ []) (priority 1 30)
+    (gives 0 [] (busy 32 (0 ∷ []) ∷ []) (runs 0 30 0 1 ∷ sleeps 1 30 0 1 ∷ []))
+    ∷ case 1 (add 0 30 1 ∷ add 1 50 1 ∷ wake 0 ∷ priority 1 30 ∷ []) (wake 1)
+    (gives 0 [] (busy 32 (0 ∷ 1 ∷ []) ∷ []) (runs 0 30 0 1 ∷ runs 1 30 0 1 ∷ []))
     ∷ []
 
--- "Runnable and unchanged: nothing."
+-- "unchanged, it stays": the first, and one between its equals
 abbrev pub prioritisingSame : List Case
 prioritisingSame =
     case 1 (ranRR ++ add 1 20 1 ∷ wake 1 ∷ []) (priority 0 20)
     (gives 0 [] (busy 22 (0 ∷ 1 ∷ []) ∷ []) (runsRR 0 20 0 afterTick 1 ∷ runs 1 20 0 1 ∷ []))
+    ∷ case 1 (add 0 30 1 ∷ add 1 30 1 ∷ add 2 30 1 ∷ wake 0 ∷ wake 1 ∷ wake 2 ∷ []) (priority 1 30)
+    (gives 0 [] (busy 32 (0 ∷ 1 ∷ 2 ∷ []) ∷ []) (runs 0 30 0 1 ∷ runs 1 30 0 1 ∷ runs 2 30 0 1 ∷ []))
     ∷ []
 
--- "Runnable and changed: leaves, then enters the same row": lower, to the priority of another, above it, and on CPU 1 of two that are allowed
-abbrev pub prioritising : List Case
-prioritising =
-    case 1 (add 0 50 1 ∷ add 1 30 1 ∷ add 2 20 1 ∷ wake 0 ∷ wake 1 ∷ wake 2 ∷ []) (priority 0 25)
-    (gives 0 [] (busy 32 (1 ∷ 0 ∷ 2 ∷ []) ∷ []) (runs 0 25 0 1 ∷ runs 1 30 0 1 ∷ runs 2 20 0 1 ∷ []))
-    ∷ case 1 (add 0 50 1 ∷ add 1 30 1 ∷ wake 0 ∷ wake 1 ∷ []) (priority 1 50)
+-- "raised, it goes behind its equals": to the priority of another, above all, between equals and a lower one, and on CPU 1 of two that are allowed
+abbrev pub raising : List Case
+raising =
+    case 1 (add 0 50 1 ∷ add 1 30 1 ∷ wake 0 ∷ wake 1 ∷ []) (priority 1 50)
     (gives 0 [] (busy 52 (0 ∷ 1 ∷ []) ∷ []) (runs 0 50 0 1 ∷ runs 1 50 0 1 ∷ []))
     ∷ case 1 (add 0 50 1 ∷ add 1 30 1 ∷ wake 0 ∷ wake 1 ∷ []) (priority 1 60)
     (gives 0 [] (busy 62 (1 ∷ 0 ∷ []) ∷ []) (runs 0 50 0 1 ∷ runs 1 60 0 1 ∷ []))
+    ∷ case 1 (add 0 40 1 ∷ add 1 40 1 ∷ add 2 30 1 ∷ add 3 20 1 ∷ wake 0 ∷ wake 1 ∷ wake 2 ∷ wake 3 ∷ []) (priority 3 40)
+    (gives 0 [] (busy 42 (0 ∷ 1 ∷ 3 ∷ 2 ∷ []) ∷ []) (runs 0 40 0 1 ∷ runs 1 40 0 1 ∷ runs 2 30 0 1 ∷ runs 3 40 0 1 ∷ []))
     ∷ case 2 (add 0 50 3 ∷ addRR 1 40 3 ∷ wake 1 ∷ wake 0 ∷ tick 1 ∷ []) (priority 1 45)
     (gives 0 [] (busy 52 (0 ∷ []) ∷ busy 47 (1 ∷ []) ∷ []) (runs 0 50 0 3 ∷ runsRR 1 45 1 afterTick 3 ∷ []))
+    ∷ []
+
+-- tasks 0, 1 and 2 with the priorities p, q and r in the row of one CPU
+abbrev pub three : ℕ → ℕ → ℕ → List Event
+three p q r = add 0 p 1 ∷ add 1 q 1 ∷ add 2 r 1 ∷ wake 0 ∷ wake 1 ∷ wake 2 ∷ []
+
+-- "a lowered runnable task stands behind every higher priority and before all others of the new one": it ran and is first of its new equals, so it
+-- keeps running; a higher one waited, by ten and by one; between two others; and one that waited, with its slice
+abbrev pub lowering : List Case
+lowering =
+    case 1 (three 50 30 30) (priority 0 30)
+    (gives 0 [] (busy 32 (0 ∷ 1 ∷ 2 ∷ []) ∷ []) (runs 0 30 0 1 ∷ runs 1 30 0 1 ∷ runs 2 30 0 1 ∷ []))
+    ∷ case 1 (three 50 40 30) (priority 0 30)
+    (gives 0 [] (busy 42 (1 ∷ 0 ∷ 2 ∷ []) ∷ []) (runs 0 30 0 1 ∷ runs 1 40 0 1 ∷ runs 2 30 0 1 ∷ []))
+    ∷ case 1 (three 50 31 30) (priority 0 30)
+    (gives 0 [] (busy 33 (1 ∷ 0 ∷ 2 ∷ []) ∷ []) (runs 0 30 0 1 ∷ runs 1 31 0 1 ∷ runs 2 30 0 1 ∷ []))
+    ∷ case 1 (three 50 31 29) (priority 0 30)
+    (gives 0 [] (busy 33 (1 ∷ 0 ∷ 2 ∷ []) ∷ []) (runs 0 30 0 1 ∷ runs 1 31 0 1 ∷ runs 2 29 0 1 ∷ []))
+    ∷ case 1 (addRR 3 60 1 ∷ wake 3 ∷ tick 0 ∷ three 70 30 30 ++ add 4 40 1 ∷ wake 4 ∷ []) (priority 3 30)
+    (gives 0 [] (busy 72 (0 ∷ 4 ∷ 3 ∷ 1 ∷ 2 ∷ []) ∷ [])
+    (runs 0 70 0 1 ∷ runs 1 30 0 1 ∷ runs 2 30 0 1 ∷ runsRR 3 30 0 afterTick 1 ∷ runs 4 40 0 1 ∷ []))
+    ∷ []
+
+-- its CPU's level falls with it: a task that waits on another CPU moves there; and one that goes on running before its equal is not moved, though
+-- behind it it would be
+abbrev pub loweringMoves : List Case
+loweringMoves =
+    case 2 (add 0 50 1 ∷ add 1 60 2 ∷ add 2 40 2 ∷ affinity 2 3 ∷ add 3 30 1 ∷ wake 0 ∷ wake 1 ∷ wake 2 ∷ wake 3 ∷ []) (priority 0 30)
+    (gives 1 (2 ∷ 1 ∷ 0 ∷ 32 ∷ []) (busy 42 (2 ∷ 0 ∷ 3 ∷ []) ∷ busy 62 (1 ∷ []) ∷ [])
+    (runs 0 30 0 1 ∷ runs 1 60 1 2 ∷ runs 2 40 0 3 ∷ runs 3 30 0 1 ∷ []))
+    ∷ case 2 (add 0 50 3 ∷ add 1 30 1 ∷ add 2 10 2 ∷ wake 0 ∷ wake 1 ∷ wake 2 ∷ []) (priority 0 30)
+    (gives 0 [] (busy 32 (0 ∷ 1 ∷ []) ∷ busy 12 (2 ∷ []) ∷ []) (runs 0 30 0 3 ∷ runs 1 30 0 1 ∷ runs 2 10 1 2 ∷ []))
     ∷ []
 
 -- 6, mask: "asleep: the mask only"; W2: "A sleeper's CPU need not be allowed."
@@ -284,6 +324,6 @@ refusal7 = fresh2 7 (ordinary 0 2) ∷ fresh2 7 (add 0 0 0) ∷ []
 abbrev pub sentences : List Case
 sentences =
     unusedNumbers ++ enteringRow ++ leavingRow ++ adding ++ removing ++ waking ++ wakingElsewhere ++ sleeping ++ prioritisingSleeper
-    ++ prioritisingSame ++ prioritising ++ maskingSleeper ++ maskingHere ++ maskingAway ++ tickingRR ++ tickingOut ++ tickingNone ++ yielding ++ ordinaryWork
+    ++ prioritisingSame ++ raising ++ lowering ++ loweringMoves ++ maskingSleeper ++ maskingHere ++ maskingAway ++ tickingRR ++ tickingOut ++ tickingNone ++ yielding ++ ordinaryWork
     ++ movableLevels ++ stepsTaken ++ moverHighest ++ moverLowestCpu ++ moverEarliest ++ destinationLowest ++ migratingSlice ++ displacing
     ++ refusal3 ++ refusal4 ++ refusal5 ++ refusal6 ++ refusal7

@@ -5,7 +5,7 @@ ghost use lib.Dec.{ltb};
 ghost use lib.ListN.{length, getD, take};
 ghost use Rattle.bits.specs.Moments.{old, new};
 ghost use Rattle.rules.specs.Lists.{In, Falling, place, delete};
-ghost use Rattle.rules.specs.Machine.{taskPlaces, queued};
+ghost use Rattle.rules.specs.Machine.{taskPlaces, highestPriority, queued, entryKey};
 ghost use Rattle.rules.specs.Tables.{padded};
 ghost use Rattle.runqueue.specs.Row.{HoldsRow, Closed, Opened, ahead};
 
@@ -23,19 +23,29 @@ pub fn remove(row: &mut [u16], count: usize, task: u16)
     shift_down(row, at, count);
 }
 
-// The task enters behind every task of the same or a higher priority and before all lower ones.
-pub fn insert(row: &mut [u16], prio: &[u8], count: usize, task: u16, priority: u8)
+// The task enters before the first whose priority is below the key.
+pub fn insert(row: &mut [u16], prio: &[u8], count: usize, task: u16, key: u8)
     requires { ⌜ HoldsRow count (now row) ⌝ }
     requires { ⌜ count < taskPlaces ⌝ }
     requires { ⌜ length (now prio) ≡ taskPlaces ⌝ }
     requires { ⌜ ((i : ℕ) → i < count → getD (now row) i 0 < taskPlaces) ⌝ }
     requires { ⌜ Falling (λ u. getD (now prio) u 0) (take count (now row)) ⌝ }
-    requires { ⌜ getD (now prio) task 0 ≡ priority ⌝ }
-    ensures { λ u. ⌜ new row ≡ padded (queued (λ u. getD (old prio) u 0) task (take count (old row))) ⌝ }
+    ensures { λ u. ⌜ new row ≡ padded (queued key (λ u. getD (old prio) u 0) task (take count (old row))) ⌝ }
 {
-    let at = rank(row, prio, count, priority);
+    let at = rank(row, prio, count, key);
     shift_up(row, at, count);
     row[at] = task;
+}
+
+// The key by which a task of this priority enters: in front of its equals or behind them.
+pub fn entry_key(front: bool, priority: u8) -> u8
+    requires { ⌜ priority ≤ highestPriority ⌝ }
+    ensures { λ r. ⌜ r ≡ entryKey front priority ⌝ }
+{
+    if front {
+        return priority + 1;
+    }
+    priority
 }
 
 // Where the task stands in the row.
@@ -51,19 +61,19 @@ fn position(row: &[u16], count: usize, task: u16) -> usize
     at
 }
 
-// How many tasks of the row are not lower than this priority. Priorities fall along a row, so the
-// walk starts at its end and passes only the lower ones.
-fn rank(row: &[u16], prio: &[u8], count: usize, priority: u8) -> usize
+// How many tasks of the row are not below the key. Priorities fall along a row, so the walk starts at
+// its end and passes only those below.
+fn rank(row: &[u16], prio: &[u8], count: usize, key: u8) -> usize
     requires { ⌜ count ≤ length (now row) ⌝ }
     requires { ⌜ length (now prio) ≡ taskPlaces ⌝ }
     requires { ⌜ ((i : ℕ) → i < count → getD (now row) i 0 < taskPlaces) ⌝ }
     requires { ⌜ Falling (λ u. getD (now prio) u 0) (take count (now row)) ⌝ }
-    ensures { λ r. ⌜ r ≡ ahead (λ u. ltb (getD (old prio) u 0) priority) (take count (old row)) ⌝ }
+    ensures { λ r. ⌜ r ≡ ahead (λ u. ltb (getD (old prio) u 0) key) (take count (old row)) ⌝ }
 {
     let mut at = count;
     while at > 0 {
         let last = row[at - 1] as usize;
-        if prio[last] >= priority {
+        if prio[last] >= key {
             return at;
         }
         at -= 1;

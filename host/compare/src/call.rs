@@ -1,6 +1,7 @@
 //! One call of a public entry, and its answer.
 
 use binding::Event;
+use std::cmp::Ordering;
 use std::fmt;
 
 #[derive(Clone, Copy, Debug, PartialEq, Eq)]
@@ -35,6 +36,8 @@ pub enum Inner {
 pub struct Agreed {
     pub answer: Answer,
     pub inner: Inner,
+    /// A new priority for a runnable task that has others of this priority in its row: how it compares with the old one.
+    pub among_equals: Option<Ordering>,
 }
 
 impl Answer {

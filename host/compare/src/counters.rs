@@ -11,6 +11,8 @@ pub struct Counters {
     pub answers: [[u64; 10]; 4],
     /// By kind of event.
     pub accepted: [u64; 10],
+    /// New priorities for a runnable task that has others of this priority in its row: lowered, unchanged, raised.
+    pub among_equals: [u64; 3],
     /// By number of moves.
     pub moves: [u64; 64],
     /// Events also run without their check, on any machine; and on settled ones, told so, with the accepted of these by
@@ -30,6 +32,7 @@ impl Default for Counters {
             cases: 0,
             answers: [[0; 10]; 4],
             accepted: [0; 10],
+            among_equals: [0; 3],
             moves: [0; 64],
             inner: 0,
             settled: 0,
@@ -82,6 +85,9 @@ impl Counters {
             Call::Find(..) if answer.number == 0 => self.found += 1,
             _ => (),
         }
+        if let Some(way) = agreed.among_equals {
+            self.among_equals[(way as i8 + 1) as usize] += 1;
+        }
         self.inner += u64::from(agreed.inner != Inner::No);
         if agreed.inner == Inner::Settled {
             self.settled += 1;
@@ -89,7 +95,8 @@ impl Counters {
         }
     }
 
-    /// Each refusal and each kind's acceptance was reached so often, and 63 moves once; else what was not, in words.
+    /// Each refusal, each kind's acceptance and each way of a new priority among equals was reached so often, and 63 moves
+    /// once; else what was not, in words.
     pub fn reached(&self, least: u64) -> Result<(), String> {
         for (entry, number) in REFUSALS {
             let times = self.answers[entry][number];
@@ -102,6 +109,14 @@ impl Counters {
             let times = self.accepted[kind];
             if times < least {
                 return Err(format!("kind {kind} was accepted only {times} times"));
+            }
+        }
+        for (way, times) in ["lowered", "unchanged", "raised"]
+            .iter()
+            .zip(self.among_equals)
+        {
+            if times < least {
+                return Err(format!("among equals {way} only {times} times"));
             }
         }
         match (0..4).find(|&entry| self.answers[entry][0] < least) {
@@ -151,6 +166,9 @@ impl Counters {
         for (a, b) in self.accepted.iter_mut().zip(other.accepted) {
             *a += b;
         }
+        for (a, b) in self.among_equals.iter_mut().zip(other.among_equals) {
+            *a += b;
+        }
         for (a, b) in self.moves.iter_mut().zip(other.moves) {
             *a += b;
         }
@@ -174,6 +192,11 @@ impl fmt::Display for Counters {
             .map(|k| format!("{k}: {}", self.accepted[k]))
             .collect();
         writeln!(f, "  accepted by kind {}", kinds.join(", "))?;
+        let [lowered, unchanged, raised] = self.among_equals;
+        writeln!(
+            f,
+            "  new priorities among equals: lowered {lowered}, unchanged {unchanged}, raised {raised}"
+        )?;
         writeln!(f, "  finder found {}, none {}", self.found, self.found_none)?;
         writeln!(f, "  events by moves {}", by_moves(&self.moves))?;
         let (inner, settled) = (self.inner, self.settled);

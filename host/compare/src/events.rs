@@ -18,6 +18,11 @@ pub fn call(rng: &mut Rng, t: &Tables, style: &Style, pool: &[u16]) -> Call {
 
 /// An event that the tables mostly accept. The numbers that its kind does not use are any.
 pub fn plausible(rng: &mut Rng, t: &Tables, style: &Style, pool: &[u16]) -> Event {
+    let shared: Vec<usize> = (0..t.n).filter(|&cpu| t.counts[cpu] > 1).collect();
+    if !shared.is_empty() && rng.percent(10) {
+        let row = t.row(rng.pick(&shared));
+        return among_equals(rng, t, row);
+    }
     let who = rng.pick(pool);
     let kind = match t.state.get(who as usize) {
         _ if rng.percent(30) => rng.pick(&[7, 7, 7, 8, 9]),
@@ -47,6 +52,18 @@ pub fn plausible(rng: &mut Rng, t: &Tables, style: &Style, pool: &[u16]) -> Even
         e.mask = style.mask(rng);
     }
     e
+}
+
+/// One of a row gets the priority of one of that row.
+fn among_equals(rng: &mut Rng, t: &Tables, row: &[u16]) -> Event {
+    let (who, like) = (rng.pick(row), rng.pick(row));
+    Event {
+        kind: 5,
+        who: who.into(),
+        a: rng.bits() as u32,
+        b: t.prio[usize::from(like)].into(),
+        mask: rng.bits(),
+    }
 }
 
 /// An event that should be refused: aimed at one refusal number, or with any numbers gone wrong.

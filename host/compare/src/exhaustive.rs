@@ -12,10 +12,12 @@ use reference::Mutant;
 use std::collections::HashSet;
 use std::fmt;
 
-/// Every well-formed machine of these sizes, settled or not, with every event.
+/// Every well-formed machine of these sizes, settled or not, with every event. One has rows that are long enough for a task
+/// that gets another priority to stand anywhere among higher ones, equals and lower ones.
 pub const ALL_QUICK: &[Size] = &[
     size(1, 2, &[1, 99], &[1, 2], &[1, 2], false),
     size(2, 2, &[40, 50], &[1], &[100], false),
+    size(1, 4, &[30, 40, 50], &[1], &[100], true),
 ];
 
 pub const ALL_FULL: &[Size] = &[

@@ -12,8 +12,8 @@ use options::{parse, Options, HELP};
 use std::process::ExitCode;
 use std::time::Instant;
 
-/// The least number of times that each refusal, each kind of event and the inner event must have come up in all modes
-/// together.
+/// The least number of times that each refusal, each kind of event, each way of a new priority among equals and the inner
+/// event must have come up in all modes together.
 const LEAST: u64 = 1000;
 
 /// Calls of mode random in a quick run.
@@ -41,7 +41,7 @@ fn run_vectors(options: &Options) -> bool {
             good = false;
         }
     }
-    println!("vectors: K1 to K12 on the library and on the reference");
+    println!("vectors: K1 to K12 and the cases of request L3 on the library and on the reference");
     good
 }
 
@@ -214,7 +214,8 @@ fn run(options: &Options) -> bool {
 fn enough(total: &Counters) -> bool {
     match total.reached(LEAST) {
         Ok(()) => println!(
-            "each refusal, each kind of event and the inner event came up at least {LEAST} times"
+            "each refusal, each kind of event, each way of a new priority among equals and the inner event \
+             came up at least {LEAST} times"
         ),
         Err(ref says) => println!("TOO FEW: {says}, {LEAST} are asked for"),
     }

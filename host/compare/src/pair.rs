@@ -8,6 +8,7 @@ use crate::tables::{first_difference, for_reference};
 use binding::{Event, Outcome, Tables};
 use inner::{Checked, Settled};
 use reference::Mutant;
+use std::cmp::Ordering;
 
 #[derive(Clone)]
 pub struct Pair {
@@ -30,16 +31,24 @@ impl Pair {
     /// without its check.
     pub fn call(&mut self, call: Call) -> Result<Agreed, Difference> {
         let Call::Event(e) = call else {
-            let (answer, inner) = (self.call_both(call)?, Inner::No);
-            return Ok(Agreed { answer, inner });
+            return Ok(Agreed {
+                answer: self.call_both(call)?,
+                inner: Inner::No,
+                among_equals: None,
+            });
         };
         let before = self.ours.clone();
         let answer = self.call_both(call)?;
+        let mut among_equals = None;
         if answer.number == 0 {
             self.accepted(&demand3::Before::of(&before), e, answer)?;
+            among_equals = compare_among_equals(&before, e);
         }
-        let inner = self.call_inner(before, e, answer)?;
-        Ok(Agreed { answer, inner })
+        Ok(Agreed {
+            answer,
+            inner: self.call_inner(before, e, answer)?,
+            among_equals,
+        })
     }
 
     /// Both had the same tables before, and the reference writes nothing when it refuses: so a refusal that
@@ -127,6 +136,21 @@ impl Pair {
     }
 }
 
+/// See [`Agreed`]. The tables are as before the event, which they accept.
+fn compare_among_equals(t: &Tables, e: Event) -> Option<Ordering> {
+    let who = e.who as usize;
+    if e.kind != 5 || t.state[who] != 2 {
+        return None;
+    }
+    let equal = |&other: &u16| {
+        let other = usize::from(other);
+        other != who && u32::from(t.prio[other]) == e.b
+    };
+    let row = t.row(t.cpu[who].into());
+    let found = row.iter().any(equal);
+    found.then(|| e.b.cmp(&t.prio[who].into()))
+}
+
 fn event_answer(outcome: Outcome) -> Answer {
     Answer {
         moves: outcome.moves,
@@ -162,5 +186,38 @@ pub fn for_reference_event(e: Event) -> reference::Event {
         a: e.a,
         b: e.b,
         mask: e.mask,
+    }
+}
+
+#[cfg(test)]
+mod tests {
+    use super::*;
+
+    fn event(kind: u32, who: u32, a: u32, b: u32, mask: u64) -> Event {
+        Event {
+            kind,
+            who,
+            a,
+            b,
+            mask,
+        }
+    }
+
+    /// Tasks 0 (50), 1 and 2 (30) stand in one row; task 3 (30) sleeps on that CPU.
+    #[test]
+    fn a_new_priority_is_compared_among_equals_alone() {
+        let mut t = Tables::fresh(1).expect("1 CPU");
+        for (who, prio) in [(0, 50), (1, 30), (2, 30), (3, 30)] {
+            assert_eq!(t.event(event(1, who, 1, prio, 1)).answer, 0);
+        }
+        for who in 0..3 {
+            assert_eq!(t.event(event(3, who, 0, 0, 0)).answer, 0);
+        }
+        let way = |who, prio| compare_among_equals(&t, event(5, who, 0, prio, 0));
+        assert_eq!(way(0, 30), Some(Ordering::Less));
+        assert_eq!(way(1, 30), Some(Ordering::Equal));
+        assert_eq!(way(2, 50), Some(Ordering::Greater));
+        assert_eq!([way(0, 50), way(0, 40), way(3, 30)], [None; 3]);
+        assert_eq!(compare_among_equals(&t, event(4, 1, 0, 30, 0)), None);
     }
 }

@@ -1,5 +1,7 @@
-//! K1 to K12 of the paper, with the paper's numbers, on our library and on the reference. A log entry is (task, from, to,
-//! level of the destination before the move).
+//! K1 to K12 of the paper, with the paper's numbers, and some cases of request L3, on our library and on the reference. A
+//! log entry is (task, from, to, level of the destination before the move).
+
+mod lowered;
 
 use crate::pair::for_reference_event;
 use crate::tables::{for_reference, from_reference};
@@ -56,6 +58,10 @@ fn wake(who: u32) -> Step {
 
 fn sleep(who: u32) -> Step {
     Do(event(4, who, 0, 0, 0), 0)
+}
+
+fn prio(who: u32, prio: u32) -> Step {
+    Do(event(5, who, 0, prio, 0), 0)
 }
 
 fn tick(cpu: u32) -> Step {
@@ -185,8 +191,8 @@ fn k11() -> Vec<Step> {
         wake(0),
         wake(1),
         Rows(&[&[0, 1]]),
-        Do(event(5, 0, 0, 30, 0), 0),
-        Rows(&[&[1, 0]]),
+        prio(0, 30),
+        Rows(&[&[0, 1]]),
     ]
 }
 
@@ -209,7 +215,7 @@ fn k12() -> Vec<Step> {
         add(511, 99, 1 << 63),
         wake(511),
         Cpus(&[0]),
-        Do(event(5, 511, 0, 1, 0), 0),
+        prio(511, 1),
     ]
 }
 
@@ -286,31 +292,35 @@ fn same<T: PartialEq + std::fmt::Debug>(what: &str, here: T, paper: T) -> Result
     }
 }
 
-/// The examples that a side gets wrong, and how.
+/// K1 to K12, each with its name.
+fn marked() -> [(&'static str, Vec<Step>); 12] {
+    [
+        ("K1", k1()),
+        ("K2", k2()),
+        ("K3", k3()),
+        ("K4", k4()),
+        ("K5", k5()),
+        ("K6", k6()),
+        ("K7", k7()),
+        ("K8", k8()),
+        ("K9", k9()),
+        ("K10", k10()),
+        ("K11", k11()),
+        ("K12", k12()),
+    ]
+}
+
+/// The examples that a side gets wrong, by name, and how.
 pub fn wrong(side: Side) -> Vec<String> {
-    let all = [
-        k1(),
-        k2(),
-        k3(),
-        k4(),
-        k5(),
-        k6(),
-        k7(),
-        k8(),
-        k9(),
-        k10(),
-        k11(),
-        k12(),
-    ];
     let mut wrong = Vec::new();
-    for (i, steps) in all.iter().enumerate() {
+    for (name, steps) in marked().into_iter().chain(lowered::cases()) {
         let mut run = Run {
             side,
             t: Tables::zeroed(1),
             moves: 0,
         };
         if let Some(says) = steps.iter().find_map(|step| run.step(step).err()) {
-            wrong.push(format!("K{} {says}", i + 1));
+            wrong.push(format!("{name} {says}"));
         }
     }
     wrong

@@ -27,6 +27,7 @@ fn random_machines() {
     none(random::run(2, 10_000, Mutant::None, &mut counters));
     assert_eq!(counters.most_moves(), 63);
     assert!((1..=9).all(|kind| counters.accepted[kind] > 0));
+    assert!(counters.among_equals.iter().all(|&times| times > 50));
     assert!(counters.settled > 1000 && counters.inner > counters.settled);
     assert!(counters.settled_moves[1] > 0 && counters.settled_moves[63] > 0);
 }

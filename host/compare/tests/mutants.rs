@@ -38,6 +38,25 @@ fn marked_examples_show_the_errors_of_the_log() {
     assert!(shown(Mutant::LogWidthThree).starts_with("K5 log: [0, 0, 1, 1, "));
 }
 
+/// The errors about a new priority, each in a case that shows it; that of a lowered task behind its equals in K11 too.
+#[test]
+fn examples_show_the_errors_of_a_new_priority() {
+    for (mutant, name) in [
+        (Mutant::LoweredBehindEquals, "K11 rows: [[1, 0]]"),
+        (Mutant::LoweredBehindEquals, "lowered-runs-on "),
+        (Mutant::LoweredBeforeAll, "lowered-waits "),
+        (Mutant::LoweredWaiterBehindEquals, "lowered-waited "),
+        (Mutant::RaisedBeforeEquals, "raised "),
+        (Mutant::SamePriorityRequeues, "unchanged "),
+        (Mutant::NoStepAfterLowered, "lowered-draws "),
+        (Mutant::NoStepAfterLowered, "lowered-moves "),
+    ] {
+        let shown = wrong(Side::Theirs(mutant));
+        let shows = |says: &String| says.starts_with(name);
+        assert!(shown.iter().any(shows), "{mutant:?}: {shown:?}");
+    }
+}
+
 /// The two pages that say how many errors there are.
 #[test]
 fn the_pages_count_the_errors() {

@@ -7,6 +7,8 @@ use crate::record::{level_of, Record};
 use crate::row;
 use crate::settle::{Few, NOWHERE};
 use crate::tables::{Lent, ASLEEP, FREE, FULL_SLICE, NOTHING, RR, RUNNABLE, TASKS};
+use std::cmp::Ordering;
+use std::mem::replace;
 
 /// The refusal, unless what is asked for holds.
 fn need(holds: bool, refusal: u8) -> Result<(), u8> {
@@ -93,13 +95,15 @@ pub fn set_priority(t: &mut Lent, record: &mut Record, e: &Event) -> Result<Few,
     let who = task(e)?;
     need(t.state[who] != FREE, 5)?;
     need(is_priority(e.b), 7)?;
-    let changed = t.prio[who] != e.b as u8;
-    t.prio[who] = e.b as u8;
-    if t.state[who] == RUNNABLE && changed {
-        Ok(move_in_row(t, record, who))
-    } else {
-        Ok(Few::NONE)
+    let before = replace(&mut t.prio[who], e.b as u8);
+    if t.state[who] != RUNNABLE {
+        return Ok(Few::NONE);
     }
+    Ok(match t.prio[who].cmp(&before) {
+        Ordering::Greater => raised(t, record, who),
+        Ordering::Equal => Few::NONE,
+        Ordering::Less => lowered(t, record, who),
+    })
 }
 
 pub fn set_affinity(t: &mut Lent, record: &mut Record, e: &Event) -> Result<Few, u8> {
@@ -159,38 +163,52 @@ pub fn set_ordinary(t: &mut Lent, record: &mut Record, e: &Event) -> Result<Few,
 fn requeue(t: &mut Lent, cpu: usize) -> Few {
     let row = &mut t.rows[cpu];
     let task = row[0];
-    let to = row::again(row, t.prio, t.counts[cpu] as usize, 0);
+    let prio = row::prio_of(t.prio, task);
+    let to = row::back(row, t.prio, t.counts[cpu] as usize, 0, prio);
     Few {
         fallen: NOWHERE,
         new: if to > 0 { task } else { NOTHING },
     }
 }
 
-/// The task, whose priority has changed, leaves its row and enters it again, and the level follows.
-fn move_in_row(t: &mut Lent, record: &mut Record, task: usize) -> Few {
+/// The task, whose priority has risen, goes forward in its row, behind its equals, and the level follows.
+fn raised(t: &mut Lent, record: &mut Record, task: usize) -> Few {
     let cpu = t.cpu[task] as usize;
     let row = &mut t.rows[cpu];
     let from = row::position(row, task as u16);
-    let to = row::again(row, t.prio, t.counts[cpu] as usize, from);
-    let new = match (from, to) {
-        (_, 1..) => task as u16,
-        (0, 0) => NOTHING,
-        _ => row[1],
-    };
-    if from > 0 && to > 0 {
-        return Few {
-            fallen: NOWHERE,
-            new,
-        };
+    let to = row::forward(row, t.prio, from);
+    if to == 0 {
+        record.set_level(cpu, level_of(t.prio[task]));
     }
-    let before = record.levels[cpu];
+    Few {
+        fallen: NOWHERE,
+        new: match (from, to) {
+            (_, 1..) => task as u16,
+            (0, 0) => NOTHING,
+            _ => row[1],
+        },
+    }
+}
+
+/// The task, whose priority has fallen, goes back in its row, before its equals, and the level follows. If it waited,
+/// nobody is more movable than before.
+fn lowered(t: &mut Lent, record: &mut Record, task: usize) -> Few {
+    let cpu = t.cpu[task] as usize;
+    let row = &mut t.rows[cpu];
+    let from = row::position(row, task as u16);
+    let above = t.prio[task] + 1;
+    let to = row::back(row, t.prio, t.counts[cpu] as usize, from, above);
+    if from > 0 {
+        return Few::NONE;
+    }
     let level = level_of(t.prio[row[0] as usize]);
-    if level != before {
+    let fell = level < record.levels[cpu];
+    if fell {
         record.set_level(cpu, level);
     }
     Few {
-        fallen: if level < before { cpu as u8 } else { NOWHERE },
-        new,
+        fallen: if fell { cpu as u8 } else { NOWHERE },
+        new: if to > 0 { task as u16 } else { NOTHING },
     }
 }
 

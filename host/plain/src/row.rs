@@ -8,7 +8,7 @@ const BLOCK: usize = 16;
 const NEAR: usize = 8;
 
 /// A task's priority. A number that stands in a row is below 512.
-fn prio_of(prio: &[u8; TASKS], task: u16) -> u8 {
+pub fn prio_of(prio: &[u8; TASKS], task: u16) -> u8 {
     prio[task as usize % TASKS]
 }
 
@@ -73,16 +73,18 @@ pub fn put(row: &mut Row, at: usize, count: usize, task: u16) {
     row[at] = task;
 }
 
-/// The task at a place leaves and enters again. Where it stands then.
-pub fn again(row: &mut Row, prio: &[u8; TASKS], count: usize, from: usize) -> usize {
+/// The task at a place goes before those ahead of it that are of a lower priority. Where it stands then.
+pub fn forward(row: &mut Row, prio: &[u8; TASKS], from: usize) -> usize {
     let task = row[from];
-    let priority = prio_of(prio, task);
-    let ahead = not_below(&row[..from], prio, priority);
-    if ahead < from {
-        row.copy_within(ahead..from, ahead + 1);
-        row[ahead] = task;
-        return ahead;
-    }
+    let to = not_below(&row[..from], prio, prio_of(prio, task));
+    row.copy_within(to..from, to + 1);
+    row[to] = task;
+    to
+}
+
+/// The task at a place goes behind those after it that are of this priority or a higher one. Where it stands then.
+pub fn back(row: &mut Row, prio: &[u8; TASKS], count: usize, from: usize, priority: u8) -> usize {
+    let task = row[from];
     let to = from + not_below(&row[from + 1..count], prio, priority);
     row.copy_within(from + 1..to + 1, from);
     row[to] = task;

@@ -88,7 +88,7 @@ fn settled_from_fresh() {
 #[test]
 fn settled_by_an_event() {
     let mut seen = Seen::default();
-    for case in 0..1280 {
+    for case in 0..1600 {
         let (mut rng, style) = style_of(14, case);
         let (plan, pool) = match case {
             0..64 => chain(&mut rng, &style, true),

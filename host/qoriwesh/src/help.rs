@@ -28,7 +28,8 @@ usage: qoriwesh examples [NAME ...]
 
 Runs the marked examples of document 01, or those named (K5 or k5), step by step
 through the library, and compares each value that document 01 gives. The fourth
-numbers of log entries are those of document 02, request L2.
+numbers of log entries are those of document 02, request L2, and K11's row is
+that of request L3.
 
 exit status: 0 if all are as document 01 says, 1 if one differs, 2 on an error.
 ";
@@ -49,7 +50,9 @@ One command a line; '#' begins a comment; blank lines are skipped.
   remove TASK                    a sleeping task goes
   wake TASK                      a sleeping task becomes runnable
   sleep TASK                     a runnable task goes to sleep
-  prio TASK PRIORITY             1 to 99, the larger the higher
+  prio TASK PRIORITY             1 to 99, the larger the higher. Raised, a
+                                 runnable task goes behind its equals; lowered,
+                                 before them
   affinity TASK CPUS             the CPUs that the task may use
   tick CPU [TIMES]               the clock ticks, once or up to 10000 times
   yield CPU                      the running task goes behind its equals

@@ -1,5 +1,5 @@
 //! The marked examples of document 01: events in the language of `explain`, and the values that it gives. The fourth
-//! numbers of the log are those of document 02, request L2.
+//! numbers of the log are those of document 02, request L2, and K11's row is that of request L3.
 
 use crate::show::Step;
 use crate::{render, words};
@@ -152,14 +152,14 @@ pub const EXAMPLES: &[Example] = &[
     },
     Example {
         name: "K11",
-        title: "a changed priority goes behind its equals",
+        title: "a lowered task goes before its equals",
         after: None,
         parts: &[
             Part(
                 "cpus 1\nadd 0 fifo 50 0\nadd 1 fifo 30 0\nwake 0\nwake 1",
                 &[Rows(&[&[0, 1]])],
             ),
-            Part("prio 0 30", &[Rows(&[&[1, 0]])]),
+            Part("prio 0 30", &[Rows(&[&[0, 1]])]),
         ],
     },
     Example {

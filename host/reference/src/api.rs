@@ -59,8 +59,7 @@ pub fn event(t: &mut Tables, e: Event, m: Mutant) -> Outcome {
     }
     let mut machine = Machine::read(t);
     own_effect(&mut machine, e, m);
-    let idle = m == Mutant::NoStepAfterNothing && machine.tasks == Machine::read(t).tasks;
-    let steps = if idle {
+    let steps = if stops(t, &machine, e, m) {
         Vec::new()
     } else {
         settle(&mut machine, m)
@@ -71,6 +70,15 @@ pub fn event(t: &mut Tables, e: Event, m: Mutant) -> Outcome {
     spoil_record(t, before, e, m);
     let moves = steps.len() as u32;
     Outcome { answer, moves }
+}
+
+/// The errors of taking no step at all after some events; `t` is as before the event. The paper's answer is no.
+fn stops(t: &Tables, machine: &Machine, e: Event, m: Mutant) -> bool {
+    match m {
+        Mutant::NoStepAfterNothing => machine.tasks == Machine::read(t).tasks,
+        Mutant::NoStepAfterLowered => e.kind == 5 && e.b < u32::from(t.prio[e.who as usize]),
+        _ => false,
+    }
 }
 
 /// "A machine need not be settled (no task movable) to be well-formed": whether it is. Of well-formed tables.

@@ -3,6 +3,7 @@
 use crate::machine::{Machine, Task};
 use crate::mutant::Mutant;
 use crate::tables::{allows, cpus_of, Event};
+use std::cmp::Ordering::{Equal, Greater, Less};
 
 /// The table of events, a line each.
 pub(crate) fn own_effect(machine: &mut Machine, e: Event, m: Mutant) {
@@ -70,18 +71,25 @@ fn sleep(machine: &mut Machine, id: u16, m: Mutant) {
     }
 }
 
-/// "asleep: the number only. Runnable and unchanged: nothing. Runnable and changed: leaves, then enters the same
-/// row"
+/// "asleep: the number only. Runnable and unchanged: nothing." Else it leaves its row and stands in it anew: "raised, it
+/// goes behind its equals; unchanged, it stays; lowered, it goes before its equals".
 fn set_prio(machine: &mut Machine, id: u16, prio: u8, m: Mutant) {
+    let cpu = machine.task(id).cpu;
+    let ran = machine.rows()[cpu].first() == Some(&id); // for a mutant
     let task = machine.task(id);
-    let changed = task.prio != prio || m == Mutant::SamePriorityRequeues;
-    task.prio = prio;
-    let cpu = task.cpu;
-    if task.arrival.is_some() && changed {
-        match m {
-            Mutant::PriorityBeforeEquals => machine.enter_before_equals(id, cpu),
-            _ => machine.enter(id, cpu),
-        }
+    let old = std::mem::replace(&mut task.prio, prio);
+    if task.arrival.is_none() {
+        return;
+    }
+    match (prio.cmp(&old), m) {
+        (Greater, Mutant::RaisedBeforeEquals) => machine.enter_before_equals(id, cpu),
+        (Greater, _) => machine.enter(id, cpu),
+        (Equal, Mutant::SamePriorityRequeues) => machine.enter(id, cpu),
+        (Equal, _) => (),
+        (Less, Mutant::LoweredBehindEquals) => machine.enter(id, cpu),
+        (Less, Mutant::LoweredWaiterBehindEquals) if !ran => machine.enter(id, cpu),
+        (Less, Mutant::LoweredBeforeAll) => machine.enter_before_all(id, cpu),
+        (Less, _) => machine.enter_before_equals(id, cpu),
     }
 }
 

@@ -26,6 +26,8 @@ pub struct Machine {
     pub ordinary: Vec<bool>,
     /// Later than every arrival, and its negative earlier.
     clock: i64,
+    /// Who stands before all of its row, whatever its priority. For mutants only.
+    before_all: Option<u16>,
 }
 
 /// "priority p at p+2"
@@ -41,6 +43,7 @@ impl Machine {
             tasks: BTreeMap::new(),
             ordinary: vec![false; n],
             clock: 0,
+            before_all: None,
         }
     }
 
@@ -82,23 +85,30 @@ impl Machine {
         task.arrival = Some(now);
     }
 
-    /// The error of standing before one's equals. For mutants only.
+    /// "stands behind every higher priority and before all others of the new one": as if it had come before them all.
     pub(crate) fn enter_before_equals(&mut self, id: u16, cpu: usize) {
         self.enter(id, cpu);
         let task = self.task(id);
         task.arrival = task.arrival.map(|now| -now);
     }
 
+    /// The error of standing before all, also before higher ones. For mutants only.
+    pub(crate) fn enter_before_all(&mut self, id: u16, cpu: usize) {
+        self.enter(id, cpu);
+        self.before_all = Some(id);
+    }
+
     /// "A row lists task numbers in run order": higher priorities first, and equals as they came.
     pub fn rows(&self) -> Vec<Vec<u16>> {
         let key = |(&id, task): (&u16, &Task)| {
+            let in_order = self.before_all != Some(id);
             task.arrival
-                .map(|came| (Reverse(task.prio), came, id, task.cpu))
+                .map(|came| (in_order, Reverse(task.prio), came, id, task.cpu))
         };
         let mut queued: Vec<_> = self.tasks.iter().filter_map(key).collect();
         queued.sort_unstable();
         let mut rows = vec![Vec::new(); self.n];
-        for (_, _, id, cpu) in queued {
+        for (_, _, _, id, cpu) in queued {
             rows[cpu].push(id);
         }
         rows

@@ -48,6 +48,8 @@ mutants! {
     OneStepOnly,
     /// no migration after an event without effect of its own
     NoStepAfterNothing,
+    /// no migration after a lowered priority
+    NoStepAfterLowered,
     /// a log entry is (task, to, from, level)
     LogSwapped,
     /// a log entry gives the destination's level after the move
@@ -84,8 +86,14 @@ mutants! {
     TickCountsFifo,
     /// the unchanged priority sends a runnable task behind its equals
     SamePriorityRequeues,
-    /// a changed priority puts a task before its equals
-    PriorityBeforeEquals,
+    /// a raised task goes before its equals
+    RaisedBeforeEquals,
+    /// a lowered task goes behind its equals
+    LoweredBehindEquals,
+    /// a lowered task goes behind its equals unless it ran
+    LoweredWaiterBehindEquals,
+    /// a lowered task goes before all of its row, higher ones too
+    LoweredBeforeAll,
     /// a mask that still allows the CPU sends the task to the lowest-numbered allowed one
     MaskAlwaysMoves,
     /// a sleeper's new mask changes its CPU

@@ -1,5 +1,6 @@
-//! K1 to K12 of the paper on the reference alone, and the sentences of request L2, "Say what was displaced": with it "K2,
-//! K5, K8 follow (the fourth numbers are 0; 22 and 12; 0)", and so do the moves of K7 and K10, to idle CPUs.
+//! K1 to K12 of the paper on the reference alone, and the sentences of two requests. L2, "Say what was displaced": with it
+//! "K2, K5, K8 follow (the fourth numbers are 0; 22 and 12; 0)", and so do the moves of K7 and K10, to idle CPUs. L3,
+//! "Lowered priority goes in front": with it "K11 becomes [0,1]".
 
 use reference::{check, event, find, make_fresh, Event, Mutant, Tables};
 
@@ -43,6 +44,10 @@ impl Run {
 
     fn wake(&mut self, who: u32) -> &mut Run {
         self.does(3, who, 0, 0, 0)
+    }
+
+    fn prio(&mut self, who: u32, prio: u32) -> &mut Run {
+        self.does(5, who, 0, prio, 0)
     }
 
     fn rows(&self) -> Vec<Vec<u16>> {
@@ -177,8 +182,8 @@ fn k11_lowered_to_an_equal() {
     let mut run = Run::fresh(1);
     run.add(0, 50, 1).add(1, 30, 1).wake(0).wake(1);
     assert_eq!(run.rows(), [[0, 1]]);
-    run.does(5, 0, 0, 30, 0);
-    assert_eq!(run.rows(), [[1, 0]]);
+    run.prio(0, 30);
+    assert_eq!(run.rows(), [[0, 1]]);
 }
 
 #[test]
@@ -292,4 +297,118 @@ fn l2_a_log_of_another_length() {
         assert_eq!(make_fresh(&mut t, Mutant::None), 1, "{length}");
         assert_eq!(t, before, "{length}");
     }
+}
+
+/// One CPU, and tasks of these priorities, woken from the highest on: they stand in number order.
+fn one_row(prios: &[u32]) -> Run {
+    let mut run = Run::fresh(1);
+    for (who, &prio) in (0..).zip(prios) {
+        run.add(who, prio, 1).wake(who);
+    }
+    assert_eq!(run.rows(), [(0..prios.len() as u16).collect::<Vec<u16>>()]);
+    run
+}
+
+/// "lowered, it goes before its equals": it keeps running, at its new level.
+#[test]
+fn l3_lowered_to_its_followers() {
+    let mut run = one_row(&[50, 30, 30]);
+    run.prio(0, 30);
+    assert_eq!(run.rows(), [[0, 1, 2]]);
+    assert_eq!((run.t.levels[0], run.moves), (32, 0));
+}
+
+/// "behind every higher priority and before all others of the new one"
+#[test]
+fn l3_lowered_below_a_follower() {
+    let mut run = one_row(&[50, 40, 30]);
+    run.prio(0, 30);
+    assert_eq!(run.rows(), [[1, 0, 2]]);
+    assert_eq!((run.t.levels[0], run.moves), (42, 0));
+}
+
+/// The same while it waits: behind 60 and 40, before both of 30.
+#[test]
+fn l3_lowered_while_it_waits() {
+    let mut run = one_row(&[60, 50, 40, 30, 30]);
+    run.prio(1, 30);
+    assert_eq!(run.rows(), [[0, 2, 1, 3, 4]]);
+    assert_eq!((run.t.levels[0], run.moves), (62, 0));
+}
+
+/// From among its equals, to a priority that nobody has and to the lowest: it goes as far back as it must.
+#[test]
+fn l3_lowered_from_among_equals() {
+    let mut run = one_row(&[50, 50, 50, 30, 20]);
+    run.prio(1, 40);
+    assert_eq!(run.rows(), [[0, 2, 1, 3, 4]]);
+    run.prio(0, 10);
+    assert_eq!(run.rows(), [[2, 1, 3, 4, 0]]);
+}
+
+/// "raised, it goes behind its equals": past a lower one, where it stands already, and to the front.
+#[test]
+fn l3_raised_goes_behind_its_equals() {
+    let mut run = one_row(&[50, 50, 30, 20]);
+    run.prio(3, 50);
+    assert_eq!(run.rows(), [[0, 1, 3, 2]]);
+    run.prio(2, 50);
+    assert_eq!(run.rows(), [[0, 1, 3, 2]]);
+    run.prio(1, 60);
+    assert_eq!(run.rows(), [[1, 0, 3, 2]]);
+    assert_eq!(run.t.levels[0], 62);
+}
+
+/// "unchanged, it stays": the first, one between and the last.
+#[test]
+fn l3_unchanged_stays() {
+    let mut run = one_row(&[30, 30, 30]);
+    let before = run.t.clone();
+    for who in 0..3 {
+        run.prio(who, 30);
+        assert_eq!((&run.t, run.moves), (&before, 0));
+    }
+}
+
+/// Task 2 holds CPU 1 at level 62 and is lowered to 30. CPU 1 is then at 32, and task 1, which waits on CPU 0 at level 42,
+/// goes there.
+#[test]
+fn l3_another_moves_then() {
+    let mut run = Run::fresh(2);
+    run.add(0, 50, 1).add(1, 40, 3).add(2, 60, 2);
+    run.wake(0).wake(2).wake(1);
+    assert_eq!(run.rows(), [vec![0, 1], vec![2]]);
+    run.prio(2, 30);
+    assert_eq!(run.log(), [1, 0, 1, 32]);
+    assert_eq!(run.rows(), [vec![0], vec![1, 2]]);
+    assert_eq!(run.t.levels[..2], [52, 42]);
+}
+
+/// Task 0 may use the idle CPU 1. Lowered to 30 it runs before its equal, and who runs is not moved; lowered to 20 it
+/// waits behind task 1, and goes there.
+#[test]
+fn l3_it_moves_itself_if_it_waits_then() {
+    let mut run = Run::fresh(2);
+    run.add(0, 50, 3).add(1, 30, 1).wake(0).wake(1);
+    run.prio(0, 30);
+    assert_eq!(run.moves, 0);
+    assert_eq!(run.rows(), [vec![0, 1], vec![]]);
+    run.prio(0, 20);
+    assert_eq!(run.log(), [0, 0, 1, 0]);
+    assert_eq!(run.rows(), [[1], [0]]);
+    assert_eq!(run.t.levels[..2], [32, 22]);
+}
+
+/// "asleep: the number only": it then wakes as any other, behind its equals.
+#[test]
+fn l3_a_sleeper_is_lowered() {
+    let mut run = Run::fresh(1);
+    run.add(0, 30, 1).add(1, 50, 1).add(2, 20, 1);
+    run.wake(0).wake(2);
+    let mut expected = run.t.clone();
+    expected.prio[1] = 30;
+    run.prio(1, 30);
+    assert_eq!((&run.t, run.moves), (&expected, 0));
+    run.wake(1);
+    assert_eq!(run.rows(), [[0, 1, 2]]);
 }

@@ -6,10 +6,10 @@ use mathlib.Core.Bool.{Bool, false, not, _&&_}
 use Prim.Native.Nat.{ℕ, _≤_}
 use native.Mathlib.Nat.{suc-ne-zero}
 use native.Mathlib.Omega.{arith}
-use lib.Dec.{leb}
+use lib.Dec.{leb, ltb}
 use borrow.Author.Tests.{le-leb, lt-leb}
 use Rattle.rules.specs.Machine.{Task, free, taskPlaces, lowestPriority, highestPriority}
-use Rattle.rules.specs.Plan.{rewrite, shift, withPrio}
+use Rattle.rules.specs.Plan.{rewrite, reorder, withPrio}
 use Rattle.laws.proofs.Checks.{between}
 use Rattle.plans.proofs.Answers.{fails-here, passes-here, none-left, tested}
 use Rattle.plans.proofs.Plans.{replaced, is-in, not-in, priority-idle, priority-same, priority-moved}
@@ -63,9 +63,6 @@ returns-4 c =
       replaced (k .rewrite .ensures ∙ ap (rewrite t) (ap (withPrio p) (l .columns))) (priority-idle l (k .if1 .left) p (k .if4 .taken)),
     )
 
-cast-if5 : tie.Need-cast-if5
-cast-if5 c = let k = at.cast-if5 c in omega (arith, low (k .args .b) (k .is-priority .ensures) (k .if3 .left))
-
 returns-5 : tie.Need-returns-5
 returns-5 c =
     λ m kind a j l.
@@ -78,11 +75,11 @@ returns-5 c =
 cast-home : tie.Need-cast-home
 cast-home c = search needs
 
-cast-shift : tie.Need-cast-shift
-cast-shift c = search needs
+cast-reorder : tie.Need-cast-reorder
+cast-reorder c = search needs
 
-shift-requires : tie.Need-shift-requires
-shift-requires c κs = search needs
+reorder-requires : tie.Need-reorder-requires
+reorder-requires c κs = search needs
 
 returns-6 : tie.Need-returns-6
 returns-6 c =
@@ -92,7 +89,7 @@ returns-6 c =
     let p = k .args .b in (
       passes-here _ _ _ 0 (lt-leb taskPlaces t (k .if1 .left))
           (passes-here _ _ _ 0 (not-in l free (k .if2 .left)) (passes-here _ _ _ 0 (tested (k .is-priority .ensures) (k .if3 .left)) none-left)),
-      replaced (k .shift .ensures ∙ ap (λ (σ : Task). shift t (σ .cpu) (withPrio p σ) (σ .cpu)) (l .columns))
+      replaced (k .reorder .ensures ∙ ap (λ (σ : Task). reorder (ltb p (σ .prio)) t (σ .cpu) (withPrio p σ)) (l .columns))
           (priority-moved l (k .if1 .left) p (k .if4 .left) (k .if5 .left) (low p (k .is-priority .ensures) (k .if3 .left))),
     )
 
@@ -107,9 +104,8 @@ set-priority-spec =
     cast-rewrite
     rewrite-requires
     returns-4
-    cast-if5
     returns-5
     cast-home
-    cast-shift
-    shift-requires
+    cast-reorder
+    reorder-requires
     returns-6

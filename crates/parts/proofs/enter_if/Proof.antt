@@ -1,6 +1,5 @@
 -- `parts::enter_if` meets its contract.
 -- Assumes nothing.
-use borrow.Author.Needs.{needs}
 use mathlib.Core.Path.{refl, sym, ap}
 use mathlib.Core.Bool.{Bool, cond}
 use native.Mathlib.Omega.{arith}
@@ -17,7 +16,7 @@ returns : tie.Need-returns
 returns c =
     let k = at.returns c in
     let x = k .args in (
-      λ m l. not-entered l (k .if1 .taken),
+      λ m l. not-entered l (x .front) (k .if1 .taken),
       sym (ap (λ (b : Bool). cond b (set (x .cpus .now) (x .task) (x .cpu)) (x .cpus .now)) (not-true (x .enters) (k .if1 .taken))),
     )
 
@@ -37,8 +36,8 @@ returns-2 c =
       λ m l.
           let n = k .if1 .left in
           let e = k .enqueue .ensures in
-          let h = entered m (may-enter l n) (e .0) (e .1) in
-          has-entered l n (record { order = h .order; prio = refl; counts = h .counts; rows = h .rows; levels = h .levels }),
+          let h = entered m (may-enter l n) (x .front) (e .0) (e .1) in
+          has-entered l n (x .front) (record { order = h .order; prio = refl; counts = h .counts; rows = h .rows; levels = h .levels }),
       sym (ap (λ (b : Bool). cond b (set (x .cpus .now) (x .task) (x .cpu)) (x .cpus .now)) (not-false (x .enters) (k .if1 .left))),
     )
 

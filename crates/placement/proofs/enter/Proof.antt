@@ -1,7 +1,7 @@
 -- `placement::enter` meets its contract.
 -- Assumes nothing.
 use mathlib.Core.Path.{_≡_, refl, sym, ap, _∙_, subst}
-use mathlib.Core.Bool.{true}
+use mathlib.Core.Bool.{true, false}
 use mathlib.Core.List.{List}
 use Prim.Native.Nat.{ℕ, suc, _*_, _≤_, _<_}
 use native.Mathlib.Omega.{arith}
@@ -27,7 +27,7 @@ mod Paths
 
 module _ {ps ks flat : List ℕ} {r : Record} {t c : ℕ} (m : Machine) (l : Entering m ps ks flat r t c) where
   abbrev joined : List ℕ
-  joined = queued (prioOf m) t (row m c)
+  joined = queued (prioOf m t) (prioOf m) t (row m c)
 
   abbrev entered : Machine
   entered = enqueue t c m
@@ -82,7 +82,7 @@ first-level-requires c κs =
     let k = at.first-level-requires c in
     let m = k .pre .0 .0 in
     let l = k .pre .0 .1 in
-    let h = has-entered m l (k .enqueue .ensures .0) (k .enqueue .ensures .1) in
+    let h = has-entered m l false (k .enqueue .ensures .0) (k .enqueue .ensures .1) in
     let first = first-ok m l h in
     let f = rows-fit _ _ (holds (entered m l) _ _ _ _ h) (k .args .cpu) (here m l h) in
     (omega arith, (ap length (l .held .prio) ∙ l .held .order .prios, (first .0, first .1)))
@@ -92,14 +92,14 @@ set-level-requires c κs =
     let k = at.set-level-requires c in
     let m = k .pre .0 .0 in
     let l = k .pre .0 .1 in
-    let h = has-entered m l (k .enqueue .ensures .0) (k .enqueue .ensures .1) in
+    let h = has-entered m l false (k .enqueue .ensures .0) (k .enqueue .ensures .1) in
     (whole m _ _ _ _ (l .held), (omega (arith, l .held .order .cpus, l .cpu), level-ok m l h (k .first-level .ensures)))
 
 returns : tie.Need-returns
 returns c =
     let k = at.returns c in (
       λ m l.
-          let h = has-entered m l (k .enqueue .ensures .0) (k .enqueue .ensures .1) in
+          let h = has-entered m l false (k .enqueue .ensures .0) (k .enqueue .ensures .1) in
           record {
             order = h .order;
             prio = h .prio;

@@ -39,14 +39,14 @@ after-rewrite c = let b = then4 (c .before) in record { args = b .args; is-prior
 abbrev pub else4 : (c : tie.Else4) → let b = else3 (c .before .before) in record { args : typeOf (b .args); is-priority : typeOf (b .is-priority); if1 : typeOf (b .if1); if2 : typeOf (b .if2); if3 : typeOf (b .if3); if4 : typeOf (c .if4) }
 else4 c = let b = else3 (c .before .before) in record { args = b .args; is-priority = b .is-priority; if1 = b .if1; if2 = b .if2; if3 = b .if3; if4 = c .if4 }
 
-abbrev pub then5 : (c : tie.Then5) → let b = else4 (c .before .before) in record { args : typeOf (b .args); is-priority : typeOf (b .is-priority); if1 : typeOf (b .if1); if2 : typeOf (b .if2); if3 : typeOf (b .if3); if4 : typeOf (b .if4); if5 : typeOf (c .if5) }
-then5 c = let b = else4 (c .before .before) in record { args = b .args; is-priority = b .is-priority; if1 = b .if1; if2 = b .if2; if3 = b .if3; if4 = b .if4; if5 = c .if5 }
+abbrev pub then5 : (c : tie.Then5) → let b = else4 (c .before .before .before) in record { args : typeOf (b .args); is-priority : typeOf (b .is-priority); if1 : typeOf (b .if1); if2 : typeOf (b .if2); if3 : typeOf (b .if3); if4 : typeOf (b .if4); if5 : typeOf (c .if5) }
+then5 c = let b = else4 (c .before .before .before) in record { args = b .args; is-priority = b .is-priority; if1 = b .if1; if2 = b .if2; if3 = b .if3; if4 = b .if4; if5 = c .if5 }
 
-abbrev pub else5 : (c : tie.Else5) → let b = else4 (c .before .before) in record { args : typeOf (b .args); is-priority : typeOf (b .is-priority); if1 : typeOf (b .if1); if2 : typeOf (b .if2); if3 : typeOf (b .if3); if4 : typeOf (b .if4); if5 : typeOf (c .if5) }
-else5 c = let b = else4 (c .before .before) in record { args = b .args; is-priority = b .is-priority; if1 = b .if1; if2 = b .if2; if3 = b .if3; if4 = b .if4; if5 = c .if5 }
+abbrev pub else5 : (c : tie.Else5) → let b = else4 (c .before .before .before) in record { args : typeOf (b .args); is-priority : typeOf (b .is-priority); if1 : typeOf (b .if1); if2 : typeOf (b .if2); if3 : typeOf (b .if3); if4 : typeOf (b .if4); if5 : typeOf (c .if5) }
+else5 c = let b = else4 (c .before .before .before) in record { args = b .args; is-priority = b .is-priority; if1 = b .if1; if2 = b .if2; if3 = b .if3; if4 = b .if4; if5 = c .if5 }
 
-abbrev pub after-shift : (c : tie.After-shift) → let b = else5 (c .before .before) in record { args : typeOf (b .args); is-priority : typeOf (b .is-priority); if1 : typeOf (b .if1); if2 : typeOf (b .if2); if3 : typeOf (b .if3); if4 : typeOf (b .if4); if5 : typeOf (b .if5); shift : typeOf (c .shift) }
-after-shift c = let b = else5 (c .before .before) in record { args = b .args; is-priority = b .is-priority; if1 = b .if1; if2 = b .if2; if3 = b .if3; if4 = b .if4; if5 = b .if5; shift = c .shift }
+abbrev pub after-reorder : (c : tie.After-reorder) → let b = else5 (c .before .before .before .before) in record { args : typeOf (b .args); is-priority : typeOf (b .is-priority); if1 : typeOf (b .if1); if2 : typeOf (b .if2); if3 : typeOf (b .if3); if4 : typeOf (b .if4); if5 : typeOf (b .if5); reorder : typeOf (c .reorder) }
+after-reorder c = let b = else5 (c .before .before .before .before) in record { args = b .args; is-priority = b .is-priority; if1 = b .if1; if2 = b .if2; if3 = b .if3; if4 = b .if4; if5 = b .if5; reorder = c .reorder }
 
 abbrev pub returns : (c : tie.Then1) → typeOf (then1 c)
 returns c = then1 c
@@ -63,17 +63,14 @@ cast-becomes c = else3 c
 abbrev pub returns-4 : (c : tie.After-rewrite) → typeOf (after-rewrite c)
 returns-4 c = after-rewrite c
 
-abbrev pub cast-if5 : (c : tie.Else4) → typeOf (else4 c)
-cast-if5 c = else4 c
-
 abbrev pub returns-5 : (c : tie.Then5) → typeOf (then5 c)
 returns-5 c = then5 c
 
-abbrev pub returns-6 : (c : tie.After-shift) → typeOf (after-shift c)
-returns-6 c = after-shift c
+abbrev pub returns-6 : (c : tie.After-reorder) → typeOf (after-reorder c)
+returns-6 c = after-reorder c
 
-pub close : {M : Type 1} → tie.Need-is-priority-requires → tie.Need-returns → tie.Need-returns-2 → tie.Need-returns-3 → tie.Need-cast-becomes → tie.Need-cast-rewrite → tie.Need-rewrite-requires → tie.Need-returns-4 → tie.Need-cast-if5 → tie.Need-returns-5 → tie.Need-cast-home → tie.Need-cast-shift → tie.Need-shift-requires → tie.Need-returns-6 → statement M
-close a0 a1 a2 a3 a4 a5 a6 a7 a8 a9 a10 a11 a12 a13 =
+pub close : {M : Type 1} → tie.Need-is-priority-requires → tie.Need-returns → tie.Need-returns-2 → tie.Need-returns-3 → tie.Need-cast-becomes → tie.Need-cast-rewrite → tie.Need-rewrite-requires → tie.Need-returns-4 → tie.Need-returns-5 → tie.Need-cast-home → tie.Need-cast-reorder → tie.Need-reorder-requires → tie.Need-returns-6 → statement M
+close a0 a1 a2 a3 a4 a5 a6 a7 a8 a9 a10 a11 a12 =
     tie.close
     (tie.spec
     a0
@@ -88,5 +85,4 @@ close a0 a1 a2 a3 a4 a5 a6 a7 a8 a9 a10 a11 a12 a13 =
     a9
     a10
     a11
-    a12
-    a13)
+    a12)

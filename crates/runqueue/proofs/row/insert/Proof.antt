@@ -1,12 +1,10 @@
 -- `runqueue::row::insert` meets its contract. Assumes nothing.
-use mathlib.Core.Path.{_≡_, sym, ap, _∙_, subst}
+use mathlib.Core.Path.{_≡_, ap, _∙_, subst}
 use Prim.Native.Nat.{ℕ, _≤_}
 use mathlib.Core.Bool.{Bool}
 use native.Mathlib.Omega.{arith}
 use lib.Dec.{ltb}
 use lib.ListN.{getD, set, take, length-set}
-use Rattle.rules.specs.Tables.{padded}
-use Rattle.rules.specs.Lists.{insertBefore}
 use Rattle.runqueue.specs.Row.{Opened, ahead}
 use Rattle.runqueue.proofs.Queued.{row-size, at-most, opened-is}
 use Rattle.runqueue.proofs.row.insert.Statement.{statement}
@@ -19,7 +17,7 @@ rank-most : (c : tie.After-rank) → let k = at.after-rank c in k .rank .result 
 rank-most c =
     let k = at.after-rank c in
     let a = k .args in
-    let test : ℕ → Bool = λ u. ltb (getD (a .prio .now) u 0) (a .priority) in
+    let test : ℕ → Bool = λ u. ltb (getD (a .prio .now) u 0) (a .key) in
     omega (arith, k .rank .ensures, at-most (a .count) (a .row .now) (k .pre .0) test (a .task) (k .pre .1 .0))
 
 rank-requires : tie.Need-rank-requires
@@ -27,7 +25,7 @@ rank-requires c κs =
     let k = at.rank-requires c in
     let a = k .args in
     let p = k .pre in
-    (omega (arith, row-size (a .count) (a .row .now) (p .0), p .0 .most), (p .1 .1 .0, (p .1 .1 .1 .0, p .1 .1 .1 .1 .0)))
+    (omega (arith, row-size (a .count) (a .row .now) (p .0), p .0 .most), (p .1 .1 .0, (p .1 .1 .1 .0, p .1 .1 .1 .1)))
 
 shift-up-requires : tie.Need-shift-up-requires
 shift-up-requires c κs =
@@ -53,12 +51,11 @@ returns c =
     let a = q .args in
     let p = q .pre in
     let ys = q .shift-up-last .row in
-    let test : ℕ → Bool = λ u. ltb (getD (a .prio .now) u 0) (a .priority) in
+    let test : ℕ → Bool = λ u. ltb (getD (a .prio .now) u 0) (a .key) in
     let rank : q .rank .result ≡ ahead test (take (a .count) (a .row .now)) = q .rank .ensures in
     ap (λ (k : ℕ). set ys k (a .task)) rank
     ∙ opened-is (a .count) (a .row .now) (p .0) test (a .task) (p .1 .0) ys
     (subst (λ (k : ℕ). Opened k (a .count) (a .row .now) ys) rank (q .shift-up .ensures))
-    ∙ ap (λ (v : ℕ). padded (insertBefore (λ (u : ℕ). ltb (getD (a .prio .now) u 0) v) (a .task) (take (a .count) (a .row .now)))) (sym (p .1 .1 .1 .1 .1))
 
 pub insert-spec : {M : Type 1} → statement M
 insert-spec = at.close rank-requires shift-up-requires mul-row slice-write-row same-length returns

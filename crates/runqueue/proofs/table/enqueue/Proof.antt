@@ -1,14 +1,14 @@
 -- `runqueue::table::enqueue` meets its contract: the row's part of the flat table takes the task in, and its count is one more.
 -- Assumes nothing.
 use borrow.Author.Needs.{needs}
-use mathlib.Core.Path.{_≡_, refl, sym, ap, _∙_, subst}
+use mathlib.Core.Path.{_≡_, sym, ap, _∙_, subst}
 use Prim.Native.Nat.{ℕ, suc, _+_, _*_, _≤_, _<_}
 use mathlib.Core.List.{List}
 use native.Mathlib.Omega.{arith}
 use lib.ListN.{length, getD, set, take}
 use lib.Seq.{getD-take}
 use Rattle.rules.specs.Lists.{In, Falling}
-use Rattle.rules.specs.Machine.{queued}
+use Rattle.rules.specs.Machine.{queued, entryKey}
 use Rattle.rules.specs.Tables.{padded}
 use Rattle.laws.proofs.Lists.{in-getD, length-insert}
 use Rattle.runqueue.specs.Table.{rowAt}
@@ -31,7 +31,7 @@ module _ (c : tie.Start) where
 
   -- the row with the task
   abbrev joins : List ℕ → List ℕ
-  joins r = let a = c .args in queued (λ (u : ℕ). getD (a .prio .now) u 0) (a .task) r
+  joins r = let a = c .args in queued (entryKey (a .front) (getD (a .prio .now) (a .task) 0)) (λ (u : ℕ). getD (a .prio .now) u 0) (a .task) r
 
   fit : let a = c .args in 512 * a .cpu + 512 ≤ length (a .rows .now)
   fit = let a = c .args in rows-fit (a .counts .now) (a .rows .now) (c .pre .0) (a .cpu) (c .pre .1 .0)
@@ -41,7 +41,7 @@ module _ (c : tie.Start) where
 
   room : let a = c .args in getD (a .counts .now) (a .cpu) 0 < 512
   room =
-      let free : length row < 512 = c .pre .1 .1 .1 .1 .room in
+      let free : length row < 512 = c .pre .1 .1 .1 .1 .1 .room in
       omega (arith, counted)
 
 -- ---- the needs
@@ -58,8 +58,11 @@ slice-read-count c = search needs
 cast-count : tie.Need-cast-count
 cast-count c = let k = at.cast-count c in omega (arith, k .slice-known3 .given (k .args .cpu))
 
-shared-slice-read-priority : tie.Need-shared-slice-read-priority
-shared-slice-read-priority c = search needs
+shared-slice-read-entry-key : tie.Need-shared-slice-read-entry-key
+shared-slice-read-entry-key c = search needs
+
+entry-key-requires : tie.Need-entry-key-requires
+entry-key-requires c κs = search needs
 
 add-insert : tie.Need-add-insert
 add-insert c = omega (arith, fit (at.add-insert c .start))
@@ -82,11 +85,11 @@ insert-requires c κs =
     let s = k .start in
     let a = k .args in
     let h = k .pre in
-    let join = h .1 .1 .1 .1 in
+    let join = h .1 .1 .1 .1 .1 in
     let taken = lent-row (h .0) (a .cpu) (h .1 .0) in
     let tasks = tasks-in (lentPart (a .rows .now) (a .cpu)) (getD (a .counts .now) (a .cpu) 0) (row s) taken (counted s) (join .tasks) in
     let falling = subst (Falling (λ (u : ℕ). getD (a .prio .now) u 0)) (sym taken) (join .falling) in
-    (lent-held (h .0) (a .cpu) (h .1 .0), (room s, (h .1 .1 .1 .0, (tasks, (falling, refl)))))
+    (lent-held (h .0) (a .cpu) (h .1 .0), (room s, (h .1 .1 .1 .0, (tasks, falling))))
 
 add-counts : tie.Need-add-counts
 add-counts c = omega (arith, room (at.add-counts c .start))
@@ -110,7 +113,9 @@ returns c =
     let a = k .args in
     let h = k .pre in
     let more = joins s (row s) in
-    let part = k .insert .ensures ∙ ap (λ (r : List ℕ). padded (joins s r)) (lent-row (h .0) (a .cpu) (h .1 .0)) in
+    let part =
+    k .insert .ensures ∙ ap (λ (x : ℕ). padded (queued x (λ (u : ℕ). getD (a .prio .now) u 0) (a .task) (take (getD (a .counts .now) (a .cpu) 0) (lentPart (a .rows .now) (a .cpu))))) (k .entry-key .ensures)
+    ∙ ap (λ (r : List ℕ). padded (joins s r)) (lent-row (h .0) (a .cpu) (h .1 .0)) in
     let size : length more ≡ suc (length (row s)) = length-insert _ (a .task) (row s) in
     let count : getD (a .counts .now) (a .cpu) 0 + 1 ≡ length more = omega (arith, counted s) in (
       lent-become (h .0) (a .cpu) (h .1 .0) more part,
@@ -124,7 +129,8 @@ enqueue-spec =
     mul-count
     slice-read-count
     cast-count
-    shared-slice-read-priority
+    shared-slice-read-entry-key
+    entry-key-requires
     add-insert
     mul-insert
     sub-insert
