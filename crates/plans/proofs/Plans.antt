@@ -56,8 +56,10 @@ module _ {m : Machine} {t : ℕ} {τ : Columns} (l : Named m t τ) where
     pub kept : (σ : Task) → σ .prio ≡ taskOf m t .prio → Doable m (rewrite t σ)
     kept σ e = record { task = ht; leaves = tt; stays = inr (e, refl); enters = tt }
 
-    pub shifted : (σ : Task) (d : ℕ) → taskOf m t .state ≡ runnable → d < m .n → σ .prio ≤ highestPriority → Doable m (shift t (taskOf m t .cpu) σ d)
-    shifted σ d s hd hp =
+    -- out of its row and into row d, in front of its equals or behind them
+    moved : (b : Bool) (σ : Task) (d : ℕ) → taskOf m t .state ≡ runnable → d < m .n → σ .prio ≤ highestPriority
+        → Doable m (record { task = t; leaves = true; origin = taskOf m t .cpu; becomes = σ; enters = true; front = b; target = d })
+    moved b σ d s hd hp =
         record {
           task = ht;
           leaves = (runnable-fit m t (l .formed) s .cpu, row-in m t (l .formed) s);
@@ -65,14 +67,11 @@ module _ {m : Machine} {t : ℕ} {τ : Columns} (l : Named m t τ) where
           enters = (hd, hp);
         }
 
-    pub reordered : (front : Bool) (σ : Task) → taskOf m t .state ≡ runnable → σ .prio ≤ highestPriority → Doable m (reorder front t (taskOf m t .cpu) σ)
-    reordered front σ s hp =
-        record {
-          task = ht;
-          leaves = (runnable-fit m t (l .formed) s .cpu, row-in m t (l .formed) s);
-          stays = tt;
-          enters = (runnable-fit m t (l .formed) s .cpu, hp);
-        }
+    pub shifted : (σ : Task) (d : ℕ) → taskOf m t .state ≡ runnable → d < m .n → σ .prio ≤ highestPriority → Doable m (shift t (taskOf m t .cpu) σ d)
+    shifted = moved false
+
+    pub reordered : (b : Bool) (σ : Task) → taskOf m t .state ≡ runnable → σ .prio ≤ highestPriority → Doable m (reorder b t (taskOf m t .cpu) σ)
+    reordered b σ s hp = moved b σ (taskOf m t .cpu) s (runnable-fit m t (l .formed) s .cpu) hp
 
     -- kinds 1 and 2
     pub rewritten : (σ : Task) → taskOf m t .state ≢ runnable → Carries (carried (rewrite t σ) m) m (rewrite t σ)
