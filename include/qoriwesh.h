@@ -43,7 +43,7 @@ extern "C" {
 /* ---- answers: 0, or the first of these that applies ---- */
 
 #define QORIWESH_OK 0
-#define QORIWESH_ESIZE 1     /* N is 0 or over 64, or a table has another length */
+#define QORIWESH_ESIZE 1     /* N is 0 or over 64, a full slice out of range, or a table of another length */
 #define QORIWESH_EFORM 2     /* the tables or the record are not well-formed */
 #define QORIWESH_EKIND 3     /* no such kind of event */
 #define QORIWESH_ENUMBER 4   /* no such task place or CPU */
@@ -61,7 +61,7 @@ extern "C" {
 #define QORIWESH_SLEEP 4    /* task who, runnable: asleep */
 #define QORIWESH_PRIORITY 5 /* task who has priority b: raised behind its equals, lowered before them */
 #define QORIWESH_AFFINITY 6 /* task who is allowed the CPUs of mask */
-#define QORIWESH_TICK 7     /* a tick on CPU who */
+#define QORIWESH_TICK 7     /* a tick on CPU who: a SCHED_RR task whose slice ends goes behind its equals */
 #define QORIWESH_YIELD 8    /* the task that runs on CPU who yields */
 #define QORIWESH_ORDINARY 9 /* CPU who has ordinary work (b 1) or none (b 0) */
 
@@ -76,7 +76,11 @@ extern "C" {
 
 #define QORIWESH_PRIO_MIN 1
 #define QORIWESH_PRIO_MAX 99 /* the highest */
-#define QORIWESH_SLICE 100   /* ticks of a full slice */
+
+#define QORIWESH_SLICE_MIN 1      /* ticks of a full slice: the least, */
+#define QORIWESH_SLICE_MAX 1000   /* the most, */
+#define QORIWESH_SLICE_DEFAULT 25 /* and those of a machine that is made without naming them */
+
 #define QORIWESH_NOTHING 65535 /* an unused place of a row or of a fresh log */
 
 #define QORIWESH_LEVEL_IDLE 0
@@ -99,15 +103,41 @@ extern "C" {
  *   level_masks, level_counts               102     the CPUs at a level, how many they are
  *   level_words                             2       bit L%64 of word L/64: level L has a CPU
  *   levels                                  64      a CPU's level
+ *
+ * Two numbers belong to the machine as its tables do, and are handed in with
+ * them: n, its CPUs, and full_slice, the ticks of a full slice, which the finder
+ * does not need. A task that is added has a full slice, and so has a SCHED_RR
+ * task again when its slice ends. In well-formed tables none has a longer one.
  */
 
 /*
  * Makes the tables those of a fresh machine of n CPUs, whatever they held: all
  * places free, rows empty, flags 0, the log all 65535, every CPU idle.
  *
- * 0 or QORIWESH_ESIZE.
+ * 0 or QORIWESH_ESIZE. *made_slice is full_slice, or 0 on a refusal.
  */
 uint8_t qoriwesh_make_fresh(
+	size_t n, uint32_t full_slice,
+	uint8_t *state, size_t state_len,
+	uint8_t *policy, size_t policy_len,
+	uint8_t *prio, size_t prio_len,
+	uint8_t *cpu, size_t cpu_len,
+	uint16_t *slice, size_t slice_len,
+	uint64_t *mask, size_t mask_len,
+	uint16_t *rows, size_t rows_len,
+	uint16_t *counts, size_t counts_len,
+	uint8_t *flags, size_t flags_len,
+	uint16_t *log, size_t log_len,
+	uint64_t *level_masks, size_t level_masks_len,
+	uint8_t *level_counts, size_t level_counts_len,
+	uint64_t *level_words, size_t level_words_len,
+	uint8_t *levels, size_t levels_len,
+	uint32_t *made_slice);
+
+/*
+ * The same with QORIWESH_SLICE_DEFAULT, which *made_slice then is.
+ */
+uint8_t qoriwesh_make_fresh_default(
 	size_t n,
 	uint8_t *state, size_t state_len,
 	uint8_t *policy, size_t policy_len,
@@ -122,7 +152,8 @@ uint8_t qoriwesh_make_fresh(
 	uint64_t *level_masks, size_t level_masks_len,
 	uint8_t *level_counts, size_t level_counts_len,
 	uint64_t *level_words, size_t level_words_len,
-	uint8_t *levels, size_t levels_len);
+	uint8_t *levels, size_t levels_len,
+	uint32_t *made_slice);
 
 /*
  * Whether the tables are those of a well-formed machine. Writes nothing.
@@ -130,7 +161,7 @@ uint8_t qoriwesh_make_fresh(
  * 0, QORIWESH_ESIZE or QORIWESH_EFORM.
  */
 uint8_t qoriwesh_check(
-	size_t n,
+	size_t n, uint32_t full_slice,
 	const uint8_t *state, size_t state_len,
 	const uint8_t *policy, size_t policy_len,
 	const uint8_t *prio, size_t prio_len,
@@ -159,7 +190,7 @@ uint8_t qoriwesh_check(
  * 1 to 9: refused, *moves is 0, and every table is as it was.
  */
 uint8_t qoriwesh_event(
-	size_t n,
+	size_t n, uint32_t full_slice,
 	uint8_t *state, size_t state_len,
 	uint8_t *policy, size_t policy_len,
 	uint8_t *prio, size_t prio_len,
@@ -198,6 +229,7 @@ uint8_t qoriwesh_find(
 
 struct qoriwesh_machine {
 	size_t cpus;
+	uint32_t full_slice;
 	uint8_t state[QORIWESH_TASKS];
 	uint8_t policy[QORIWESH_TASKS];
 	uint8_t prio[QORIWESH_TASKS];
@@ -216,8 +248,7 @@ struct qoriwesh_machine {
 
 /* The parameters that lend the machine's tables, as those of n CPUs. With over 64 CPUs the lengths are those of 64. */
 #define QORIWESH_LEND_CPUS(n) ((n) < QORIWESH_CPUS ? (n) : QORIWESH_CPUS)
-#define QORIWESH_LEND_AS(m, n) \
-	(n), \
+#define QORIWESH_LEND_TABLES(m, n) \
 	(m)->state, QORIWESH_TASKS, (m)->policy, QORIWESH_TASKS, \
 	(m)->prio, QORIWESH_TASKS, (m)->cpu, QORIWESH_TASKS, \
 	(m)->slice, QORIWESH_TASKS, (m)->mask, QORIWESH_TASKS, \
@@ -226,7 +257,9 @@ struct qoriwesh_machine {
 	(m)->log, QORIWESH_LOG, \
 	(m)->level_masks, QORIWESH_LEVELS, (m)->level_counts, QORIWESH_LEVELS, \
 	(m)->level_words, QORIWESH_WORDS, (m)->levels, QORIWESH_CPUS
-#define QORIWESH_LEND(m) QORIWESH_LEND_AS(m, (m)->cpus)
+
+/* The same with the machine's two numbers before them. */
+#define QORIWESH_LEND(m) (m)->cpus, (m)->full_slice, QORIWESH_LEND_TABLES(m, (m)->cpus)
 
 /* A number as an int: C and C++ warn of each other's casts. */
 #ifdef __cplusplus
@@ -235,13 +268,29 @@ struct qoriwesh_machine {
 #define QORIWESH_INT(x) ((int)(x))
 #endif
 
-/* 0, or -QORIWESH_ESIZE: then the machine is as it was. */
+/* A machine with the default full slice. 0, or -QORIWESH_ESIZE: then the machine is as it was. */
 static inline int qoriwesh_machine_init(struct qoriwesh_machine *m, size_t cpus)
 {
-	uint8_t answer = qoriwesh_make_fresh(QORIWESH_LEND_AS(m, cpus));
+	uint32_t made_slice;
+	uint8_t answer = qoriwesh_make_fresh_default(cpus, QORIWESH_LEND_TABLES(m, cpus), &made_slice);
 
-	if (!answer)
+	if (!answer) {
 		m->cpus = cpus;
+		m->full_slice = made_slice;
+	}
+	return -answer;
+}
+
+/* The same with a full slice of so many ticks. */
+static inline int qoriwesh_machine_init_slice(struct qoriwesh_machine *m, size_t cpus, uint32_t ticks)
+{
+	uint32_t made_slice;
+	uint8_t answer = qoriwesh_make_fresh(cpus, ticks, QORIWESH_LEND_TABLES(m, cpus), &made_slice);
+
+	if (!answer) {
+		m->cpus = cpus;
+		m->full_slice = made_slice;
+	}
 	return -answer;
 }
 

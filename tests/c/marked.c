@@ -1,9 +1,10 @@
 /* SPDX-License-Identifier: MIT */
 /*
  * Document 01's marked examples K1 to K12 through include/qoriwesh.h, as C and as C++; the fourth numbers of the
- * log are those of document 02, request L2, and K11's row is that of request L3, of which there are more cases. Each
- * line of an example is an event with what it must answer; what the example says of rows, levels, log and columns is
- * compared after it. Says so and exits 0, or says what differs and exits 1.
+ * log are those of document 02, request L2, and K11's row is that of request L3, of which there are more cases. They
+ * name 100 as the full slice; request L7, by which it is a number of the machine, has cases of its own. Each line of an
+ * example is an event with what it must answer; what the example says of rows, levels, log and columns is compared after
+ * it. Says so and exits 0, or says what differs and exits 1.
  */
 #include <stdio.h>
 #include <string.h>
@@ -35,14 +36,36 @@ static void unlogged(int from_entry)
 		same("a number of the log that no move wrote", m.log[i], QORIWESH_NOTHING);
 }
 
-static void fresh(const char *name, size_t cpus)
+/* What holds of each fresh machine. */
+static void made(int answer, size_t cpus, uint32_t full_slice)
 {
-	begin(name);
-	memset(&m, 0x5a, sizeof(m));
-	same("the fresh machine's answer", qoriwesh_machine_init(&m, cpus), 0);
+	same("the fresh machine's answer", answer, 0);
+	same("its CPUs", m.cpus == cpus, 1);
+	same("its full slice", m.full_slice, full_slice);
 	same("the fresh machine's check", qoriwesh_machine_check(&m), 0);
 	same("the check of its tables, lent by hand", qoriwesh_check(QORIWESH_LEND(&m)), 0);
 	unlogged(0);
+}
+
+static void fresh_slice(const char *name, size_t cpus, uint32_t full_slice)
+{
+	begin(name);
+	memset(&m, 0x5a, sizeof(m));
+	made(qoriwesh_machine_init_slice(&m, cpus, full_slice), cpus, full_slice);
+}
+
+/* With document 01's full slice. */
+static void fresh(const char *name, size_t cpus)
+{
+	fresh_slice(name, cpus, 100);
+}
+
+/* With none named. */
+static void fresh_default(const char *name, size_t cpus)
+{
+	begin(name);
+	memset(&m, 0x5a, sizeof(m));
+	made(qoriwesh_machine_init(&m, cpus), cpus, QORIWESH_SLICE_DEFAULT);
 }
 
 /* The moves of an accepted event, or a refusal's number, negative; a refused one changes nothing. */
@@ -61,6 +84,19 @@ static void event(uint32_t kind, uint32_t who, uint32_t a, uint32_t b, uint64_t 
 static void add(uint32_t task, uint32_t prio, uint64_t mask)
 {
 	event(QORIWESH_ADD, task, QORIWESH_FIFO, prio, mask, 0);
+}
+
+static void add_rr(uint32_t task, uint32_t prio, uint64_t mask)
+{
+	event(QORIWESH_ADD, task, QORIWESH_RR, prio, mask, 0);
+}
+
+static void ticks(uint32_t times)
+{
+	uint32_t i;
+
+	for (i = 0; i < times; i++)
+		event(QORIWESH_TICK, 0, 0, 0, 0, 0);
 }
 
 static void wake(uint32_t task, int moves)
@@ -226,20 +262,17 @@ static void k7_k8(void)
 
 static void k9(void)
 {
-	int i;
-
-	fresh("K9", 1);
-	event(QORIWESH_ADD, 0, QORIWESH_RR, 20, 1, 0);
-	event(QORIWESH_ADD, 1, QORIWESH_RR, 20, 1, 0);
+	fresh_slice("K9", 1, 100);
+	add_rr(0, 20, 1);
+	add_rr(1, 20, 1);
 	wake(0, 0);
 	wake(1, 0);
-	for (i = 0; i < 99; i++)
-		event(QORIWESH_TICK, 0, 0, 0, 0, 0);
+	ticks(99);
 	row2(0, 0, 1);
 	same("the slice before the last tick", m.slice[0], 1);
-	event(QORIWESH_TICK, 0, 0, 0, 0, 0);
+	ticks(1);
 	row2(0, 1, 0);
-	same("the slice after it", m.slice[0], QORIWESH_SLICE);
+	same("the slice after it", m.slice[0], 100);
 }
 
 static void k10_k11(void)
@@ -363,8 +396,77 @@ static void lowered_sleeper(void)
 	row3(0, 0, 1, 2);
 }
 
-/* A refused machine leaves the earlier one as it was. */
-static void refused(size_t cpus)
+/* Two equal SCHED_RR tasks, and as many ticks as the full slice has: the last one ends the slice of the first. */
+static void whole_slice(uint32_t full_slice)
+{
+	add_rr(0, 20, 1);
+	add_rr(1, 20, 1);
+	wake(0, 0);
+	wake(1, 0);
+	same("the slice of a task that was added", m.slice[0], full_slice);
+	ticks(full_slice - 1);
+	row2(0, 0, 1);
+	same("the slice before the last tick", m.slice[0], 1);
+	ticks(1);
+	row2(0, 1, 0);
+	same("the slice after it", m.slice[0], full_slice);
+	same("the slice of the other", m.slice[1], full_slice);
+}
+
+/* "W2 and kinds 1 and 7 use that number" */
+static void slices(void)
+{
+	fresh_slice("a full slice of 1", 1, QORIWESH_SLICE_MIN);
+	whole_slice(1);
+	ticks(1);
+	row2(0, 0, 1);
+	add(2, 30, 1);
+	wake(2, 0);
+	ticks(3);
+	row3(0, 2, 0, 1);
+	same("a SCHED_FIFO task's slice", m.slice[2], 1);
+	fresh_slice("a full slice of 25", 1, 25);
+	whole_slice(25);
+	fresh_default("no full slice named", 1);
+	whole_slice(25);
+	fresh_slice("a full slice of 1000", 1, QORIWESH_SLICE_MAX);
+	whole_slice(1000);
+}
+
+/* A column that holds 60, checked with other full slices than the one that the machine was made with. */
+static void sixty_left(void)
+{
+	fresh("60 ticks left", 1);
+	add_rr(0, 20, 1);
+	wake(0, 0);
+	ticks(40);
+	same("the slice", m.slice[0], 60);
+	m.full_slice = 50;
+	same("the check with 50", qoriwesh_machine_check(&m), -QORIWESH_EFORM);
+	event(QORIWESH_TICK, 0, 0, 0, 0, -QORIWESH_EFORM);
+	m.full_slice = 59;
+	same("the check with 59", qoriwesh_machine_check(&m), -QORIWESH_EFORM);
+	m.full_slice = 60;
+	same("the check with 60", qoriwesh_machine_check(&m), 0);
+	m.full_slice = 100;
+	same("the check with 100", qoriwesh_machine_check(&m), 0);
+	m.full_slice = 1000;
+	add(1, 20, 1);
+	same("the slice of a task added with 1000", m.slice[1], 1000);
+	same("the slice of the other", m.slice[0], 60);
+}
+
+/* A refused machine leaves the earlier one as it was, with its numbers. */
+static void refused(size_t cpus, uint32_t full_slice)
+{
+	static struct qoriwesh_machine before;
+
+	memcpy(&before, &m, sizeof(m));
+	same("the answer to N and the full slice", qoriwesh_machine_init_slice(&m, cpus, full_slice), -QORIWESH_ESIZE);
+	same("what a refused machine changed", memcmp(&before, &m, sizeof(m)) != 0, 0);
+}
+
+static void refused_default(size_t cpus)
 {
 	static struct qoriwesh_machine before;
 
@@ -376,8 +478,10 @@ static void refused(size_t cpus)
 static void k12(void)
 {
 	k2("K12");
-	refused(0);
-	refused(65);
+	refused(0, 100);
+	refused(65, 100);
+	refused_default(0);
+	refused_default(65);
 	add(2, 40, 3);
 	fresh("K12", 2);
 	event(QORIWESH_ADD, 512, QORIWESH_FIFO, 50, 1, -QORIWESH_ENUMBER);
@@ -397,8 +501,7 @@ static void k12(void)
 }
 
 /* The parameters that lend the machine's tables with another log. */
-#define LEND_WITH(m, numbers, length) \
-	(m)->cpus, \
+#define TABLES_WITH(m, numbers, length) \
 	(m)->state, QORIWESH_TASKS, (m)->policy, QORIWESH_TASKS, \
 	(m)->prio, QORIWESH_TASKS, (m)->cpu, QORIWESH_TASKS, \
 	(m)->slice, QORIWESH_TASKS, (m)->mask, QORIWESH_TASKS, \
@@ -408,12 +511,15 @@ static void k12(void)
 	(m)->level_masks, QORIWESH_LEVELS, (m)->level_counts, QORIWESH_LEVELS, \
 	(m)->level_words, QORIWESH_WORDS, (m)->levels, QORIWESH_CPUS
 
-/* The three entries that are lent a log, on one of another length: each is refused, and changes nothing. */
+/* The same with the machine's two numbers. */
+#define LEND_WITH(m, numbers, length) (m)->cpus, (m)->full_slice, TABLES_WITH(m, numbers, length)
+
+/* The four entries that are lent a log, on one of another length: each is refused, and changes nothing. */
 static void log_refused(size_t length)
 {
 	static struct qoriwesh_machine before;
 	uint16_t numbers[QORIWESH_LOG + 1], kept[QORIWESH_LOG + 1];
-	uint32_t moves = 7;
+	uint32_t moves = 7, made_slice = 7, default_slice = 7;
 
 	memset(numbers, 0x5a, sizeof(numbers));
 	memcpy(kept, numbers, sizeof(numbers));
@@ -422,7 +528,12 @@ static void log_refused(size_t length)
 	same("the event with this log",
 	     qoriwesh_event(LEND_WITH(&m, numbers, length), QORIWESH_SLEEP, 0, 0, 0, 0, &moves), QORIWESH_ESIZE);
 	same("its moves", QORIWESH_INT(moves), 0);
-	same("the fresh machine with this log", qoriwesh_make_fresh(LEND_WITH(&m, numbers, length)), QORIWESH_ESIZE);
+	same("the fresh machine with this log",
+	     qoriwesh_make_fresh(LEND_WITH(&m, numbers, length), &made_slice), QORIWESH_ESIZE);
+	same("its full slice", made_slice, 0);
+	same("the default one with this log",
+	     qoriwesh_make_fresh_default(m.cpus, TABLES_WITH(&m, numbers, length), &default_slice), QORIWESH_ESIZE);
+	same("its full slice", default_slice, 0);
 	same("what they changed in the log", memcmp(kept, numbers, sizeof(numbers)) != 0, 0);
 	same("what they changed", memcmp(&before, &m, sizeof(m)) != 0, 0);
 }
@@ -440,6 +551,73 @@ static void lengths(void)
 	log_refused(189);
 	log_refused(QORIWESH_LOG - 1);
 	log_refused(QORIWESH_LOG + 1);
+}
+
+/* "given to the maker, handed back by it (25 by a second maker told none, 0 on a refusal)", whatever the tables held */
+static void handed_back(size_t cpus, uint32_t full_slice, uint8_t answer)
+{
+	static struct qoriwesh_machine before;
+	uint32_t made_slice = 7;
+
+	memset(&m, 0x5a, sizeof(m));
+	memcpy(&before, &m, sizeof(m));
+	same("the maker's answer",
+	     qoriwesh_make_fresh(cpus, full_slice, QORIWESH_LEND_TABLES(&m, cpus), &made_slice), answer);
+	same("what it hands back", made_slice, answer ? 0 : full_slice);
+	same("whether it left every byte", memcmp(&before, &m, sizeof(m)) == 0, answer != 0);
+}
+
+static void handed_back_default(size_t cpus, uint8_t answer)
+{
+	static struct qoriwesh_machine before;
+	uint32_t made_slice = 7;
+
+	memset(&m, 0x5a, sizeof(m));
+	memcpy(&before, &m, sizeof(m));
+	same("the second maker's answer",
+	     qoriwesh_make_fresh_default(cpus, QORIWESH_LEND_TABLES(&m, cpus), &made_slice), answer);
+	same("what it hands back", made_slice, answer ? 0 : 25);
+	same("whether it left every byte", memcmp(&before, &m, sizeof(m)) == 0, answer != 0);
+}
+
+static void makers(void)
+{
+	begin("the makers");
+	handed_back(2, 1, QORIWESH_OK);
+	handed_back(2, 25, QORIWESH_OK);
+	handed_back(64, 1000, QORIWESH_OK);
+	handed_back(0, 100, QORIWESH_ESIZE);
+	handed_back(65, 100, QORIWESH_ESIZE);
+	handed_back(65, 0, QORIWESH_ESIZE);
+	handed_back_default(1, QORIWESH_OK);
+	handed_back_default(64, QORIWESH_OK);
+	handed_back_default(0, QORIWESH_ESIZE);
+	handed_back_default(65, QORIWESH_ESIZE);
+}
+
+/* "one out of range is refused with 1", by each entry that is handed it. */
+static void slice_refused(uint32_t full_slice)
+{
+	begin("a full slice out of range");
+	handed_back(2, full_slice, QORIWESH_ESIZE);
+	k2("a full slice out of range");
+	refused(2, full_slice);
+	m.full_slice = full_slice;
+	same("the check with it", qoriwesh_machine_check(&m), -QORIWESH_ESIZE);
+	event(QORIWESH_SLEEP, 0, 0, 0, 0, -QORIWESH_ESIZE);
+	event(10, 0, 0, 0, 0, -QORIWESH_ESIZE);
+	m.full_slice = 100;
+	event(QORIWESH_SLEEP, 0, 0, 0, 0, 0);
+}
+
+static void slices_refused(void)
+{
+	slice_refused(0);
+	slice_refused(1001);
+	slice_refused(65535);
+	slice_refused(65536);
+	slice_refused(65536 + 25);
+	slice_refused(UINT32_MAX);
 }
 
 /* The finder, and what the other examples do not reach: kinds, policies, damage. */
@@ -472,6 +650,10 @@ int main(void)
 	later_log();
 	k7_k8();
 	k9();
+	slices();
+	sixty_left();
+	makers();
+	slices_refused();
 	k10_k11();
 	lowered();
 	raised_unchanged();
@@ -481,6 +663,6 @@ int main(void)
 	lengths();
 	others();
 	if (!wrong)
-		printf("K1 to K12, new priorities, the finder and the refusals are as the documents say\n");
+		printf("K1 to K12, new priorities, full slices, the finder and the refusals are as the documents say\n");
 	return wrong;
 }

@@ -13,7 +13,7 @@ int main(void)
 
 	if (!state || qoriwesh_machine_init(&m, 2))
 		return 2;
-	return qoriwesh_check(m.cpus, state, QORIWESH_TASKS, m.policy, QORIWESH_TASKS,
+	return qoriwesh_check(m.cpus, m.full_slice, state, QORIWESH_TASKS, m.policy, QORIWESH_TASKS,
 			      m.prio, QORIWESH_TASKS, m.cpu, QORIWESH_TASKS,
 			      m.slice, QORIWESH_TASKS, m.mask, QORIWESH_TASKS,
 			      m.rows, 2 * QORIWESH_TASKS, m.counts, 2, m.flags, 2,

@@ -7,7 +7,8 @@ ghost use Rattle.lenttables.specs.Lent.{oldTables, newTables};
 ghost use Rattle.rules.specs.Events.{effect, event as numbers};
 ghost use Rattle.rules.specs.LentDemand3.{LentDemand3};
 ghost use Rattle.rules.specs.Tables.{machineOf};
-ghost use Rattle.rules.specs.Entry.{result};
+ghost use Rattle.rules.specs.Machine.{defaultSlice};
+ghost use Rattle.rules.specs.Entry.{result, handedBack};
 ghost use Rattle.lentrecord.specs.Entry.{lentMade, lentChecked, lentHandled, lentFound, answer};
 use cpupri::find::Found;
 use lentrecord::lengths_fit;
@@ -15,10 +16,70 @@ use lentrecord::read;
 use lentrecord::tell;
 use lentrecord::write;
 use rules::answer::BAD_SIZE;
+use rules::task::DEFAULT_SLICE;
 
-// A fresh machine of n CPUs, whatever the tables held: 0, or 1 if n or a length does not fit.
+// A fresh machine of n CPUs, with a full slice of so many ticks, whatever the tables held: 0, or 1 if n, the full slice or
+// a length does not fit. `handed` gets the full slice, or 0 on a refusal.
 #[no_mangle]
 pub extern "C" fn qoriwesh_make_fresh(
+    n: usize,
+    full: u32,
+    state: &mut [u8],
+    policy: &mut [u8],
+    prio: &mut [u8],
+    cpu: &mut [u8],
+    slice: &mut [u16],
+    mask: &mut [u64],
+    rows: &mut [u16],
+    counts: &mut [u16],
+    flags: &mut [u8],
+    log: &mut [u16],
+    level_masks: &mut [u64],
+    level_counts: &mut [u8],
+    level_words: &mut [u64],
+    levels: &mut [u8],
+    handed: &mut u32,
+) -> u8
+    ensures { λ a. let r = oldRecord «level_masks» «level_counts» «level_words» levels in
+        let q = newRecord «level_masks» «level_counts» «level_words» levels in
+        let s = oldTables full state policy prio cpu slice mask rows counts flags log in
+        let t = newTables full state policy prio cpu slice mask rows counts flags log in
+        ⌜ result a 0 q t ≡ lentMade n r s ⌝
+        ∗ ⌜ new handed ≡ handedBack a full ⌝ }
+{
+    *handed = 0;
+    if !lengths_fit(
+        level_masks.len(),
+        level_counts.len(),
+        level_words.len(),
+        levels.len(),
+    ) {
+        return BAD_SIZE;
+    }
+    let given = read(level_masks, level_counts, level_words, levels);
+    let made = checker::fresh::make_fresh(
+        n,
+        full,
+        state,
+        policy,
+        prio,
+        cpu,
+        slice,
+        mask,
+        rows,
+        counts,
+        flags,
+        log,
+        given,
+    );
+    *handed = made.full;
+    write(made.record, level_masks, level_counts, level_words, levels);
+    made.answer
+}
+
+// The same, told no full slice: it has 25 ticks.
+#[no_mangle]
+pub extern "C" fn qoriwesh_make_fresh_default(
     n: usize,
     state: &mut [u8],
     policy: &mut [u8],
@@ -34,24 +95,18 @@ pub extern "C" fn qoriwesh_make_fresh(
     level_counts: &mut [u8],
     level_words: &mut [u64],
     levels: &mut [u8],
+    handed: &mut u32,
 ) -> u8
     ensures { λ a. let r = oldRecord «level_masks» «level_counts» «level_words» levels in
         let q = newRecord «level_masks» «level_counts» «level_words» levels in
-        let s = oldTables state policy prio cpu slice mask rows counts flags log in
-        let t = newTables state policy prio cpu slice mask rows counts flags log in
-        ⌜ result a 0 q t ≡ lentMade n r s ⌝ }
+        let s = oldTables defaultSlice state policy prio cpu slice mask rows counts flags log in
+        let t = newTables defaultSlice state policy prio cpu slice mask rows counts flags log in
+        ⌜ result a 0 q t ≡ lentMade n r s ⌝
+        ∗ ⌜ new handed ≡ handedBack a defaultSlice ⌝ }
 {
-    if !lengths_fit(
-        level_masks.len(),
-        level_counts.len(),
-        level_words.len(),
-        levels.len(),
-    ) {
-        return BAD_SIZE;
-    }
-    let given = read(level_masks, level_counts, level_words, levels);
-    let made = checker::fresh::make_fresh(
+    qoriwesh_make_fresh(
         n,
+        DEFAULT_SLICE,
         state,
         policy,
         prio,
@@ -62,17 +117,20 @@ pub extern "C" fn qoriwesh_make_fresh(
         counts,
         flags,
         log,
-        given,
-    );
-    write(made.record, level_masks, level_counts, level_words, levels);
-    made.answer
+        level_masks,
+        level_counts,
+        level_words,
+        levels,
+        handed,
+    )
 }
 
-// 0 for a well-formed machine, 1 if n or a length does not fit, 2 if it is not well-formed. Nothing is
-// written.
+// 0 for a well-formed machine, 1 if n, the full slice or a length does not fit, 2 if it is not well-formed. Nothing
+// is written.
 #[no_mangle]
 pub extern "C" fn qoriwesh_check(
     n: usize,
+    full: u32,
     state: &[u8],
     policy: &[u8],
     prio: &[u8],
@@ -89,7 +147,7 @@ pub extern "C" fn qoriwesh_check(
     levels: &[u8],
 ) -> u8
     ensures { λ a. let r = oldRecord «level_masks» «level_counts» «level_words» levels in
-        ⌜ a ≡ lentChecked n r (oldTables state policy prio cpu slice mask rows counts flags log) ⌝ }
+        ⌜ a ≡ lentChecked n r (oldTables full state policy prio cpu slice mask rows counts flags log) ⌝ }
 {
     if !lengths_fit(
         level_masks.len(),
@@ -102,6 +160,7 @@ pub extern "C" fn qoriwesh_check(
     let record = read(level_masks, level_counts, level_words, levels);
     checker::check::check(
         n,
+        full,
         state,
         policy,
         prio,
@@ -121,6 +180,7 @@ pub extern "C" fn qoriwesh_check(
 #[no_mangle]
 pub extern "C" fn qoriwesh_event(
     n: usize,
+    full: u32,
     state: &mut [u8],
     policy: &mut [u8],
     prio: &mut [u8],
@@ -144,8 +204,8 @@ pub extern "C" fn qoriwesh_event(
 ) -> u8
     ensures { λ o. let r = oldRecord «level_masks» «level_counts» «level_words» levels in
         let q = newRecord «level_masks» «level_counts» «level_words» levels in
-        let s = oldTables state policy prio cpu slice mask rows counts flags log in
-        let t = newTables state policy prio cpu slice mask rows counts flags log in
+        let s = oldTables full state policy prio cpu slice mask rows counts flags log in
+        let t = newTables full state policy prio cpu slice mask rows counts flags log in
         let e = numbers kind who a b k in
         ⌜ result o (new moves) q t ≡ lentHandled n r s e ⌝
         ∗ ⌜ (o ≡ 0 → LentDemand3 n (new moves) (effect e (machineOf n s)) t) ⌝
@@ -163,6 +223,7 @@ pub extern "C" fn qoriwesh_event(
     let given = read(level_masks, level_counts, level_words, levels);
     let o = machine::event(
         n,
+        full,
         state,
         policy,
         prio,

@@ -43,7 +43,7 @@ row-level-cong p q f (u ∷ us) h = ap levelOf (h u (in-here u us))
 module _ (t : ℕ) (τ : Task) (m : Machine) where
   abbrev written : List ℕ → Machine
   written ps =
-      build (m .n) (set (m .state) t (τ .state)) (set (m .policy) t (τ .policy)) ps (set (m .cpu) t (τ .cpu)) (set (m .slice) t (τ .slice))
+      build (m .n) (m .full) (set (m .state) t (τ .state)) (set (m .policy) t (τ .policy)) ps (set (m .cpu) t (τ .cpu)) (set (m .slice) t (τ .slice))
       (set (m .mask) t (τ .mask)) (m .rows) (m .flags)
 
   same-prio : τ .prio ≡ prioOf m t → set (m .prio) t (τ .prio) ≡ m .prio

@@ -30,8 +30,14 @@ pub fn set_priority(named: Task, who: u32, b: u32) -> Decision
     if !in_range {
         return Decision::Refused(answer::BAD_VALUE);
     }
-    let mut becomes = named;
-    becomes.prio = b as u8;
+    let becomes = Task {
+        state: named.state,
+        policy: named.policy,
+        prio: b as u8,
+        cpu: named.cpu,
+        slice: named.slice,
+        mask: named.mask,
+    };
     if named.state != task::RUNNABLE {
         return Decision::Place(Plan::rewrite(who as u16, becomes));
     }
@@ -61,8 +67,14 @@ pub fn set_affinity(n: usize, named: Task, who: u32, k: u64) -> Decision
     if !fits {
         return Decision::Refused(answer::BAD_MASK);
     }
-    let mut becomes = named;
-    becomes.mask = k;
+    let becomes = Task {
+        state: named.state,
+        policy: named.policy,
+        prio: named.prio,
+        cpu: named.cpu,
+        slice: named.slice,
+        mask: k,
+    };
     if named.state != task::RUNNABLE {
         return Decision::Place(Plan::rewrite(who as u16, becomes));
     }

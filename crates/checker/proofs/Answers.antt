@@ -45,6 +45,7 @@ counts-empty (suc n) = ap (λ (t : List ℕ). 0 ∷ t) (counts-empty n)
 
 -- what is filled in is a fresh machine's
 pub record Blank (s t : Tables) : Type 0 where
+  pub full : t .full ≡ s .full
   pub state : t .state ≡ replicate (length (s .state)) 0
   pub policy : t .policy ≡ replicate (length (s .policy)) 0
   pub prio : t .prio ≡ replicate (length (s .prio)) 0
@@ -65,8 +66,8 @@ made-blank n r q s t h b e = filled ∙ sym (made-fresh n r s h)
     resized : (x : List ℕ) (v j k : ℕ) → x ≡ replicate j v → j ≡ k → x ≡ replicate k v
     resized x v j k p l = p ∙ ap (λ (i : ℕ). replicate i v) l
 
-    cpupri : q ≡ recordOf (levels (fresh n))
-    cpupri = e ∙ ap recordOf (sym (levels-fresh n (sized .0 .cpus)))
+    cpupri : q ≡ recordOf (levels (fresh n (s .full)))
+    cpupri = e ∙ ap recordOf (sym (levels-fresh n (s .full) (sized .0 .cpus)))
 
     state : t .state ≡ replicate taskPlaces 0
     state = resized (t .state) 0 (length (s .state)) taskPlaces (b .state) (sized .0 .state)
@@ -98,7 +99,7 @@ made-blank n r q s t h b e = filled ∙ sym (made-fresh n r s h)
     log : t .log ≡ replicate logPlaces nothing
     log = resized (t .log) nothing (length (s .log)) logPlaces (b .log) (sized .3)
 
-    filled : kept 0 q t ≡ written 0 (fresh n) (replicate logPlaces nothing)
+    filled : kept 0 q t ≡ written 0 (fresh n (s .full)) (replicate logPlaces nothing)
     filled =
         λ i.
         record {
@@ -106,6 +107,7 @@ made-blank n r q s t h b e = filled ∙ sym (made-fresh n r s h)
           moves = 0;
           cpupri = cpupri i;
           tables = record {
+            full = b .full i;
             state = state i;
             policy = policy i;
             prio = prio i;

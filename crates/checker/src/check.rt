@@ -18,10 +18,11 @@ use rules::answer::ILL_FORMED;
 use wellformed::columns::columns_fit;
 use wellformed::rows::rows_fit;
 
-// 0 for a well-formed machine, 1 if N or a length does not fit, 2 if anything that is stored is not as
-// W1 to W6 say. Nothing is written.
+// 0 for a well-formed machine, 1 if N, the full slice or a length does not fit, 2 if anything that is stored is not
+// as W1 to W6 say. Nothing is written.
 pub fn check(
     n: usize,
+    full: u32,
     state: &[u8],
     policy: &[u8],
     prio: &[u8],
@@ -34,10 +35,11 @@ pub fn check(
     log: &[u16],
     record: Record,
 ) -> u8
-    ensures { λ a. ⌜ a ≡ checked n «record» (oldTables state policy prio cpu slice mask rows counts flags log) ⌝ }
+    ensures { λ a. ⌜ a ≡ checked n «record» (oldTables full state policy prio cpu slice mask rows counts flags log) ⌝ }
 {
     if !lengths_fit(
         n,
+        full,
         state,
         policy,
         prio,
@@ -53,6 +55,7 @@ pub fn check(
     }
     if !tables_fit(
         n,
+        full,
         state,
         policy,
         prio,
@@ -72,6 +75,7 @@ pub fn check(
 // W1 to W6 of tables that have their lengths; the log may hold anything.
 pub fn tables_fit(
     n: usize,
+    full: u32,
     state: &[u8],
     policy: &[u8],
     prio: &[u8],
@@ -83,11 +87,11 @@ pub fn tables_fit(
     flags: &[u8],
     record: Record,
 ) -> bool
-    requires { ⌜ Shape (machineOf n (lent (now state) (now policy) (now prio) (now cpu) (now slice) (now mask)
+    requires { ⌜ Shape (machineOf n (lent full (now state) (now policy) (now prio) (now cpu) (now slice) (now mask)
         (now rows) (now counts) (now flags) [])) ⌝ }
     requires { ⌜ length (now rows) ≡ taskPlaces * n ⌝ }
     requires { ⌜ length (now counts) ≡ n ⌝ }
-    ensures { λ b. ⌜ b ≡ tablesFit n «record» (lent (old state) (old policy) (old prio) (old cpu) (old slice) (old mask)
+    ensures { λ b. ⌜ b ≡ tablesFit n «record» (lent full (old state) (old policy) (old prio) (old cpu) (old slice) (old mask)
         (old rows) (old counts) (old flags) []) ⌝ }
 {
     let levels = record.levels;
@@ -103,5 +107,5 @@ pub fn tables_fit(
         &record.words,
         &record.levels,
     );
-    columns_fit(n, state, policy, prio, cpu, slice, mask, &marks) & consistent
+    columns_fit(n, full, state, policy, prio, cpu, slice, mask, &marks) & consistent
 }

@@ -1,6 +1,6 @@
 // A fresh machine in lent tables.
 ghost use mathlib.Core.Path.{_≡_};
-ghost use Rattle.rules.specs.Entry.{kept, made};
+ghost use Rattle.rules.specs.Entry.{kept, made, handedBack};
 ghost use Rattle.lenttables.specs.Lent.{oldTables, newTables};
 use blank::empty_rows;
 use blank::free_tasks;
@@ -9,16 +9,19 @@ use lenttables::sizes_fit;
 use rules::answer::ACCEPTED;
 use rules::answer::BAD_SIZE;
 
-// The answer, and the record that comes back.
+// The answer, and what comes back: the full slice, 0 on a refusal, and the record.
 pub struct Made {
     pub answer: u8,
+    pub full: u32,
     pub record: Record,
 }
 
-// All places free, rows empty, flags 0, every log number 65535, whatever the tables held. Refused with
-// 1 if N or a length does not fit; then nothing changes and the record given comes back.
+// All places free, rows empty, flags 0, every log number 65535, whatever the tables held; a full slice has so many
+// ticks. Refused with 1 if N, the full slice or a length does not fit; then nothing changes and the record given
+// comes back.
 pub fn make_fresh(
     n: usize,
+    full: u32,
     state: &mut [u8],
     policy: &mut [u8],
     prio: &mut [u8],
@@ -31,12 +34,14 @@ pub fn make_fresh(
     log: &mut [u16],
     record: Record,
 ) -> Made
-    ensures { λ m. let s = oldTables state policy prio cpu slice mask rows counts flags log in
-        let t = newTables state policy prio cpu slice mask rows counts flags log in
-        ⌜ kept (m .answer) (m .«record») t ≡ made n «record» s ⌝ }
+    ensures { λ m. let s = oldTables full state policy prio cpu slice mask rows counts flags log in
+        let t = newTables full state policy prio cpu slice mask rows counts flags log in
+        ⌜ kept (m .answer) (m .«record») t ≡ made n «record» s ⌝
+        ∗ ⌜ m .full ≡ handedBack (m .answer) full ⌝ }
 {
     if !sizes_fit(
         n,
+        full,
         state.len(),
         policy.len(),
         prio.len(),
@@ -50,6 +55,7 @@ pub fn make_fresh(
     ) {
         return Made {
             answer: BAD_SIZE,
+            full: 0,
             record,
         };
     }
@@ -57,6 +63,7 @@ pub fn make_fresh(
     empty_rows(rows, counts, flags, log);
     Made {
         answer: ACCEPTED,
+        full,
         record: Record::fresh(n),
     }
 }

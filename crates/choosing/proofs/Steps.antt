@@ -98,7 +98,7 @@ module _ (m : Machine) (w : WellFormed m) where
     runs : taskOf m u .state ≡ runnable
     runs = let p = in-waiting u i in in-row m u (p .0) w (tail-in u (row m (p .0)) (p .2)) .0
 
-    fit : Fit (m .n) (taskOf m u)
+    fit : Fit (m .n) (m .full) (taskOf m u)
     fit = runnable-fit m u w runs
 
     pub waits-place : u < taskPlaces

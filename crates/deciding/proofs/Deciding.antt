@@ -50,7 +50,7 @@ unnamed k n1 n2 n3 n4 n5 n6 n7 n8 n9 = go (same? k 0)
 
 -- ---- what is read
 
-module _ {m : Machine} {n : ℕ} {ss ps qs cs ls ks : List ℕ} {t kind who : ℕ} (l : Lent m n ss ps qs cs ls ks t kind who) where
+module _ {m : Machine} {n full : ℕ} {ss ps qs cs ls ks : List ℕ} {t kind who : ℕ} (l : Lent m n full ss ps qs cs ls ks t kind who) where
   pub sized : (length ss ≡ taskPlaces)
       × ((length ps ≡ taskPlaces) × ((length qs ≡ taskPlaces) × ((length cs ≡ taskPlaces) × ((length ls ≡ taskPlaces) × (length ks ≡ taskPlaces)))))
   sized = (

@@ -32,9 +32,10 @@ Decides m e d = Decided (refusal m e) (effect e m) m d
 
 -- ---- what is lent
 
-pub record Lent (m : Machine) (n : ℕ) (ss ps qs cs ls ks : List ℕ) (t kind who : ℕ) : Type 0 where
+pub record Lent (m : Machine) (n full : ℕ) (ss ps qs cs ls ks : List ℕ) (t kind who : ℕ) : Type 0 where
   pub formed : WellFormed m
   pub cpus : n ≡ m .n
+  pub ticks : full ≡ m .full
   pub state : ss ≡ m .state
   pub policy : ps ≡ m .policy
   pub prio : qs ≡ m .prio

@@ -12,6 +12,7 @@ use rules::answer::UNKNOWN_KIND;
 // `at` is the task that the event is about: `read::subject`.
 pub fn decide(
     n: usize,
+    full: u16,
     state: &[u8],
     policy: &[u8],
     prio: &[u8],
@@ -26,20 +27,20 @@ pub fn decide(
     k: u64,
 ) -> Decision
     requires { ⌜ ((m : Machine)
-        × Lent m n (now state) (now policy) (now prio) (now cpu) (now slice) (now mask) at kind who) ⌝ }
+        × Lent m n full (now state) (now policy) (now prio) (now cpu) (now slice) (now mask) at kind who) ⌝ }
     ensures { λ r. ⌜ ((m : Machine)
-        → Lent m n (old state) (old policy) (old prio) (old cpu) (old slice) (old mask) at kind who
+        → Lent m n full (old state) (old policy) (old prio) (old cpu) (old slice) (old mask) at kind who
         → Decides m (event kind who a b k) r) ⌝ }
 {
     let task = read::task_at(state, policy, prio, cpu, slice, mask, at);
     match kind {
-        1 => lifecycle::add(n, task, who, a, b, k),
+        1 => lifecycle::add(n, full, task, who, a, b, k),
         2 => lifecycle::remove(task, who),
         3 => lifecycle::wake(task, who),
         4 => lifecycle::sleep(task, who),
         5 => change::set_priority(task, who, b),
         6 => change::set_affinity(n, task, who, k),
-        7 => percpu::tick(n, at, task, who),
+        7 => percpu::tick(n, full, at, task, who),
         8 => percpu::yield_cpu(n, at, task, who),
         9 => percpu::set_ordinary(n, who, b),
         _ => Decision::Refused(UNKNOWN_KIND),

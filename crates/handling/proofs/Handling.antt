@@ -21,7 +21,7 @@ use Rattle.laws.proofs.Checks.{outcome-accepted}
 use Rattle.laws.proofs.Effects.{keep-effect}
 use Rattle.laws.proofs.Runs.{settle-run, run-keeps, run-few}
 use Rattle.laws.proofs.Tables.{write-read, stored-test}
-use Rattle.laws.proofs.Entry.{checked-good, good-checked, answer-checked, answer-event, handled-answer, handled-refused, handled-accepted, handled-good, start-n}
+use Rattle.laws.proofs.Entry.{checked-good, good-checked, answer-checked, answer-event, handled-answer, handled-refused, handled-accepted, handled-good, start-n, start-full}
 use Rattle.laws.proofs.LentDemand3.{handled-lent}
 use Rattle.laws.specs.Still.{Still}
 use Rattle.laws.proofs.Settled.{handled-still, still-handled}
@@ -40,6 +40,7 @@ use Rattle.migration.specs.Settling.{Settling, Ended}
 
 -- tables that agree in every part
 record Same (s t : Tables) : Type 0 where
+  full : s .full ≡ t .full
   state : s .state ≡ t .state
   policy : s .policy ≡ t .policy
   prio : s .prio ≡ t .prio
@@ -54,8 +55,8 @@ record Same (s t : Tables) : Type 0 where
 same-tables : (s t : Tables) → Same s t → s ≡ t
 same-tables s t h = whole
   where
-    whole : lent (s .state) (s .policy) (s .prio) (s .cpu) (s .slice) (s .mask) (s .rows) (s .counts) (s .flags) (s .log)
-        ≡ lent (t .state) (t .policy) (t .prio) (t .cpu) (t .slice) (t .mask) (t .rows) (t .counts) (t .flags) (t .log)
+    whole : lent (s .full) (s .state) (s .policy) (s .prio) (s .cpu) (s .slice) (s .mask) (s .rows) (s .counts) (s .flags) (s .log)
+        ≡ lent (t .full) (t .state) (t .policy) (t .prio) (t .cpu) (t .slice) (t .mask) (t .rows) (t .counts) (t .flags) (t .log)
     whole =
         let a = h .state in
         let b = h .policy in
@@ -67,6 +68,7 @@ same-tables s t h = whole
         let i = h .counts in
         let j = h .flags in
         let k = h .log in
+        let l = h .full in
         cc
 
 -- ---- what `handle` promises of the answer a, k moves, the record q and the tables t
@@ -119,11 +121,12 @@ module _ {n : ℕ} {r : Record} {s : Tables} (h : Passed n r s) where
   lent-rows = record { formed = good .machine; cpus = refl; rows = holds .rows; counts = holds .counts }
 
   pub lent-columns : (kind who : ℕ) {t : ℕ} → t ≡ subjectOf (machineOf n s) kind who
-      → Lent (machineOf n s) n (s .state) (s .policy) (s .prio) (s .cpu) (s .slice) (s .mask) t kind who
+      → Lent (machineOf n s) n (s .full) (s .state) (s .policy) (s .prio) (s .cpu) (s .slice) (s .mask) t kind who
   lent-columns kind who e =
       record {
         formed = good .machine;
         cpus = refl;
+        ticks = refl;
         state = refl;
         policy = refl;
         prio = refl;
@@ -174,17 +177,19 @@ module _ {n : ℕ} {r : Record} {s : Tables} (h : Passed n r s) where
 pub record Carried (n : ℕ) (r : Record) (s : Tables) (e : Event) (t : Tables) (q : Record) : Type 0 where
   pub passed : Passed n r s
   pub takes : refusal (machineOf n s) e ≡ 0
+  pub full : t .full ≡ s .full
   pub log : t .log ≡ s .log
   pub done : Holds (effect e (machineOf n s)) (t .state) (t .policy) (t .prio) (t .cpu) (t .slice) (t .mask) (t .rows) (t .counts) (t .flags) q
 
 pub carries : {n : ℕ} {r : Record} {s : Tables} (e : Event) {t : Tables} {q : Record} (d : Decision) → Passed n r s
-    → Decides (machineOf n s) e d → accepted d ≡ true → t .log ≡ s .log → Holds (did d (machineOf n s)) (t .state) (t .policy) (t .prio) (t .cpu) (t .slice) (t .mask) (t .rows) (t .counts) (t .flags) q
+    → Decides (machineOf n s) e d → accepted d ≡ true → t .full ≡ s .full → t .log ≡ s .log → Holds (did d (machineOf n s)) (t .state) (t .policy) (t .prio) (t .cpu) (t .slice) (t .mask) (t .rows) (t .counts) (t .flags) q
     → Carried n r s e t q
-carries {n} {r} {s} e {t} {q} d h right z log done =
+carries {n} {r} {s} e {t} {q} d h right z full log done =
     let ok : (refusal (machineOf n s) e ≡ 0) × (did d (machineOf n s) ≡ effect e (machineOf n s)) = taken (machineOf n s) e d right z in
     record {
       passed = h;
       takes = ok .0;
+      full = full;
       log = log;
       done = subst (λ (m : Machine). Holds m (t .state) (t .policy) (t .prio) (t .cpu) (t .slice) (t .mask) (t .rows) (t .counts) (t .flags) q) (ok .1) done;
     }
@@ -203,6 +208,7 @@ module _ {n : ℕ} {r : Record} {s : Tables} {e : Event} {t : Tables} {q : Recor
   start-tables =
       same-tables t _
       (record {
+        full = h .full ∙ sym (start-full n r s e accepted-is);
         state = h .done .state;
         policy = h .done .policy;
         prio = h .done .prio;
@@ -247,16 +253,17 @@ module _ {n : ℕ} {r : Record} {s : Tables} {e : Event} {t : Tables} {q : Recor
     steps = settleAll start
 
     abbrev after : Tables
-    after = lent (t .state) (t .policy) (t .prio) cs (t .slice) (t .mask) flat ks (t .flags) lg
+    after = lent (t .full) (t .state) (t .policy) (t .prio) cs (t .slice) (t .mask) flat ks (t .flags) lg
 
-    -- steps leave the other columns alone
-    stays : (f : Machine → List ℕ) → ((v : Move) (m : Machine) → f (migrate v m) ≡ f m) → f start ≡ f (steps .machine)
+    -- steps leave the other columns and the full slice alone
+    stays : {A : Type 0} (f : Machine → A) → ((v : Move) (m : Machine) → f (migrate v m) ≡ f m) → f start ≡ f (steps .machine)
     stays f c = sym (run-keeps f c (settle-run (start .n) start))
 
     after-is : after ≡ tablesOf (steps .machine) (logged (steps .log) (s .log))
     after-is =
         same-tables after _
         (record {
+          full = h .full ∙ sym (start-full n r s e accepted-is) ∙ stays (λ m. m .full) (λ v m. refl);
           state = h .done .state ∙ stays (λ m. m .state) (λ v m. refl);
           policy = h .done .policy ∙ stays (λ m. m .policy) (λ v m. refl);
           prio = ended .held .prio;
@@ -278,7 +285,7 @@ module _ {n : ℕ} {r : Record} {s : Tables} {e : Event} {t : Tables} {q : Recor
         all ∙ sym (ap (λ (o : Outcome). written (o .moves) (o .machine) (logged (o .log) (s .log))) (outcome-accepted (machineOf n s) e (h .takes)))
         ∙ sym (handled-accepted n r s e accepted-is)
 
-    pub taken-result : Handed n r s e 0 k p (lent (t .state) (t .policy) (t .prio) cs (t .slice) (t .mask) flat ks (t .flags) lg)
+    pub taken-result : Handed n r s e 0 k p (lent (t .full) (t .state) (t .policy) (t .prio) cs (t .slice) (t .mask) flat ks (t .flags) lg)
     taken-result =
         handed n r s e 0 k p after taken-is
         (good-checked n p after (subst (λ (x : Result). Good n (x .cpupri) (x .tables)) (sym taken-is) (handled-good n r s e accepted-is)))

@@ -27,7 +27,7 @@ use Rattle.hinting.proofs.Hints.{some-task, option-task, some-cpu}
 pub cpu-small : (m : Machine) (t : ℕ) → WellFormed m → t < taskPlaces → taskOf m t .cpu < m .n
 cpu-small m t w h = go (w .tasks t h)
   where
-    go : Sound (m .n) (taskOf m t) → taskOf m t .cpu < m .n
+    go : Sound (m .n) (m .full) (taskOf m t) → taskOf m t .cpu < m .n
     go (is-free e) = let z : taskOf m t .cpu ≡ 0 = ap (λ (τ : Columns). τ .cpu) e in omega (arith, w .shape .some-cpu)
     go (is-asleep s f) = f .cpu
     go (is-runnable s f) = f .cpu

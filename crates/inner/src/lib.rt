@@ -33,6 +33,7 @@ pub extern "C" fn qoriwesh_inner_event(
     tallies: &mut [u8; LEVELS],
     words: &mut [u64; WORDS],
     levels: &mut [u8; CPUS],
+    full: u16,
     kind: u32,
     who: u32,
     a: u32,
@@ -41,12 +42,12 @@ pub extern "C" fn qoriwesh_inner_event(
     moves: &mut u32,
 ) -> u8
     requires { let r = nowRecord masks tallies words levels in
-        ⌜ checked n r (nowTables state policy prio cpu slice mask rows counts flags log) ≡ 0 ⌝ }
-    requires { ⌜ (settled ≡ true → Still n (nowTables state policy prio cpu slice mask rows counts flags log)) ⌝ }
+        ⌜ checked n r (nowTables full state policy prio cpu slice mask rows counts flags log) ≡ 0 ⌝ }
+    requires { ⌜ (settled ≡ true → Still n (nowTables full state policy prio cpu slice mask rows counts flags log)) ⌝ }
     ensures { λ o. let r = oldRecord masks tallies words levels in
         let q = newRecord masks tallies words levels in
-        let s = oldTables state policy prio cpu slice mask rows counts flags log in
-        let t = newTables state policy prio cpu slice mask rows counts flags log in
+        let s = oldTables full state policy prio cpu slice mask rows counts flags log in
+        let t = newTables full state policy prio cpu slice mask rows counts flags log in
         ⌜ result o (new moves) q t ≡ handled n r s (numbers kind who a b k) ⌝
         ∗ ⌜ checked n q t ≡ 0 ⌝
         ∗ ⌜ (o ≡ 0 → Still n t) ⌝
@@ -69,6 +70,7 @@ pub extern "C" fn qoriwesh_inner_event(
         tallies,
         words,
         levels,
+        full,
         kind,
         who,
         a,

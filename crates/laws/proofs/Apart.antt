@@ -79,7 +79,7 @@ shaped-place m t s r = go (ltb t taskPlaces) refl
 
 pub record Apart (t : ℕ) (m : Machine) : Type 0 where
   pub shape : Shape m
-  pub tasks : (u : ℕ) → u < taskPlaces → u ≢ t → Sound (m .n) (taskOf m u)
+  pub tasks : (u : ℕ) → u < taskPlaces → u ≢ t → Sound (m .n) (m .full) (taskOf m u)
   pub flags : (c : ℕ) → c < m .n → flag m c ≤ 1
   pub absent : (c : ℕ) → occ t (row m c) ≡ 0
   pub rows : (u c : ℕ) → u ≢ t → occ u (row m c) ≡ standing (taskOf m u) c
@@ -103,17 +103,17 @@ apart-idle t m w n =
       falling = w .falling;
     }
 
-pub fit-of : (n : ℕ) (τ : Task) → Sound n τ → τ .state ≢ 0 → Fit n τ
-fit-of n τ (is-free e) h = absurd (h (ap (λ (x : Task). x .state) e))
-fit-of n τ (is-asleep s f) h = f
-fit-of n τ (is-runnable s f) h = f
+pub fit-of : (n full : ℕ) (τ : Task) → Sound n full τ → τ .state ≢ 0 → Fit n full τ
+fit-of n full τ (is-free e) h = absurd (h (ap (λ (x : Task). x .state) e))
+fit-of n full τ (is-asleep s f) h = f
+fit-of n full τ (is-runnable s f) h = f
 
 -- a runnable task is a task place, and fits
 pub runnable-place : (m : Machine) (t : ℕ) → WellFormed m → taskOf m t .state ≡ runnable → t < taskPlaces
 runnable-place m t w r = shaped-place m t (w .shape) r
 
-pub runnable-fit : (m : Machine) (t : ℕ) → WellFormed m → taskOf m t .state ≡ runnable → Fit (m .n) (taskOf m t)
-runnable-fit m t w s = fit-of (m .n) (taskOf m t) (w .tasks t (runnable-place m t w s)) (λ z. omega arith)
+pub runnable-fit : (m : Machine) (t : ℕ) → WellFormed m → taskOf m t .state ≡ runnable → Fit (m .n) (m .full) (taskOf m t)
+runnable-fit m t w s = fit-of (m .n) (m .full) (taskOf m t) (w .tasks t (runnable-place m t w s)) (λ z. omega arith)
 
 -- what stands in row c is runnable there
 pub in-row : (m : Machine) (t c : ℕ) → WellFormed m → In t (row m c) → (taskOf m t .state ≡ runnable) × (taskOf m t .cpu ≡ c)
@@ -156,7 +156,7 @@ apart-dequeue t m w s =
 -- any columns that differ from the machine's at t alone
 module _ (t : ℕ) (m : Machine) (p : Apart t m) (a b c d e f : List ℕ) where
   abbrev other : Machine
-  other = record { n = m .n; state = a; policy = b; prio = c; cpu = d; slice = e; mask = f; rows = m .rows; flags = m .flags }
+  other = record { n = m .n; full = m .full; state = a; policy = b; prio = c; cpu = d; slice = e; mask = f; rows = m .rows; flags = m .flags }
 
   pub apart-columns : Shape other → ((u : ℕ) → u ≢ t → taskOf other u ≡ taskOf m u) → Apart t other
   apart-columns s same =
@@ -185,7 +185,7 @@ module _ (t : ℕ) (m : Machine) (p : Apart t m) where
   -- ---- well-formed again
 
   -- as a task that is not runnable
-  pub rejoin-idle : Sound (m .n) (taskOf m t) → taskOf m t .state ≢ runnable → WellFormed m
+  pub rejoin-idle : Sound (m .n) (m .full) (taskOf m t) → taskOf m t .state ≢ runnable → WellFormed m
   rejoin-idle s n =
       record {
         shape = p .shape;
@@ -196,8 +196,8 @@ module _ (t : ℕ) (m : Machine) (p : Apart t m) where
         falling = p .falling;
       }
     where
-      tasks : (u : ℕ) → u < taskPlaces → (u ≡ t) ⊎ (u ≢ t) → Sound (m .n) (taskOf m u)
-      tasks u h (inl e) = subst (λ (x : ℕ). Sound (m .n) (taskOf m x)) (sym e) s
+      tasks : (u : ℕ) → u < taskPlaces → (u ≡ t) ⊎ (u ≢ t) → Sound (m .n) (m .full) (taskOf m u)
+      tasks u h (inl e) = subst (λ (x : ℕ). Sound (m .n) (m .full) (taskOf m x)) (sym e) s
       tasks u h (inr d) = p .tasks u h d
 
       rows : (u c : ℕ) → (u ≡ t) ⊎ (u ≢ t) → occ u (row m c) ≡ standing (taskOf m u) c
@@ -235,7 +235,7 @@ pub record Joins (p : ℕ → ℕ) (t : ℕ) (r r′ : List ℕ) : Type 0 where
   pub occurs : (u : ℕ) → occ u r′ ≡ digit (eqb u t) + occ u r
   pub falling : Falling p r′
 
-module _ (t c : ℕ) (m : Machine) (p : Apart t m) (place : t < taskPlaces) (fit : Fit (m .n) (taskOf m t)) (runs : taskOf m t .state ≡ runnable)
+module _ (t c : ℕ) (m : Machine) (p : Apart t m) (place : t < taskPlaces) (fit : Fit (m .n) (m .full) (taskOf m t)) (runs : taskOf m t .state ≡ runnable)
     (small : c < m .n) (may : allows m (taskOf m t .mask) c ≡ true) (r : List ℕ) (joins : Joins (prioOf m) t (row m c) r) where
   abbrev entered : Machine
   entered = store Column.cpu t c (withRow c r m)
@@ -260,7 +260,7 @@ module _ (t c : ℕ) (m : Machine) (p : Apart t m) (place : t < taskPlaces) (fit
       old : (u : ℕ) → u ≢ t → taskOf entered u ≡ taskOf m u
       old u n = store-other Column.cpu t c u (withRow c r m) n
 
-      new-fit : Fit (m .n) (put Column.cpu c (taskOf m t))
+      new-fit : Fit (m .n) (m .full) (put Column.cpu c (taskOf m t))
       new-fit =
           record {
             policy-low = fit .policy-low;
@@ -274,8 +274,8 @@ module _ (t c : ℕ) (m : Machine) (p : Apart t m) (place : t < taskPlaces) (fit
             mask-fits = fit .mask-fits;
           }
 
-      tasks : (u : ℕ) → u < taskPlaces → (u ≡ t) ⊎ (u ≢ t) → Sound (m .n) (taskOf entered u)
-      tasks u h (inl e) = subst (λ (x : ℕ). Sound (m .n) (taskOf entered x)) (sym e) (rw new (is-runnable runs new-fit))
+      tasks : (u : ℕ) → u < taskPlaces → (u ≡ t) ⊎ (u ≢ t) → Sound (m .n) (m .full) (taskOf entered u)
+      tasks u h (inl e) = subst (λ (x : ℕ). Sound (m .n) (m .full) (taskOf entered x)) (sym e) (rw new (is-runnable runs new-fit))
       tasks u h (inr n) = rw (old u n) (p .tasks u h n)
 
       rows : (u d : ℕ) → (u ≡ t) ⊎ (u ≢ t) → occ u (row entered d) ≡ standing (taskOf entered u) d
@@ -328,13 +328,13 @@ queued-joins front p t r f = record { occurs = λ u. occ-insert test t u r; fall
             behind u (inl s) i = let q : p u ≡ p t = ap p s in omega (arith, ltb-false (p y) k e, beside .0)
             behind u (inr n) i = f .0 u (omega (arith, occ-insert test t u ys, digit-other u t n))
 
-pub rejoin-at : (front : Bool) (t c : ℕ) (m : Machine) → Apart t m → t < taskPlaces → Fit (m .n) (taskOf m t) → taskOf m t .state ≡ runnable → c < m .n
+pub rejoin-at : (front : Bool) (t c : ℕ) (m : Machine) → Apart t m → t < taskPlaces → Fit (m .n) (m .full) (taskOf m t) → taskOf m t .state ≡ runnable → c < m .n
     → allows m (taskOf m t .mask) c ≡ true → WellFormed (enqueueAt front t c m)
 rejoin-at front t c m p place fit runs small may =
     rejoin-row t c m p place fit runs small may (queued (entryKey front (prioOf m t)) (prioOf m) t (row m c))
     (queued-joins front (prioOf m) t (row m c) (p .falling c))
 
 -- the rule's entering
-pub rejoin-enqueue : (t c : ℕ) (m : Machine) → Apart t m → t < taskPlaces → Fit (m .n) (taskOf m t) → taskOf m t .state ≡ runnable → c < m .n
+pub rejoin-enqueue : (t c : ℕ) (m : Machine) → Apart t m → t < taskPlaces → Fit (m .n) (m .full) (taskOf m t) → taskOf m t .state ≡ runnable → c < m .n
     → allows m (taskOf m t .mask) c ≡ true → WellFormed (enqueue t c m)
 rejoin-enqueue = rejoin-at false

@@ -11,7 +11,7 @@ use lib.Dec.{ltb}
 use lib.ListN.{length}
 use borrow.Author.Tests.{ltb-true, ltb-false}
 use Rattle.rules.specs.Lists.{In, occ}
-use Rattle.rules.specs.Machine.{Machine, taskOf, prioOf, row, level, levelOf, allowed, runnable, fresh, cpuPlaces}
+use Rattle.rules.specs.Machine.{Machine, taskOf, prioOf, row, level, levelOf, allowed, runnable, fresh, cpuPlaces, longestSlice}
 use Rattle.rules.specs.WellFormed.{WellFormed}
 use Rattle.rules.specs.Events.{Event, effect}
 use Rattle.rules.specs.Refusals.{refusal}
@@ -90,5 +90,5 @@ unfolding played
 keep-played [] m w = w
 keep-played (e ∷ es) m w = keep-played es (outcome m e .machine) (keep-outcome m e w)
 
-pub reached-well-formed : (n : ℕ) (es : List Event) → 1 ≤ n → n ≤ cpuPlaces → WellFormed (played es (fresh n))
-reached-well-formed n es h l = keep-played es (fresh n) (fresh-well-formed n h l)
+pub reached-well-formed : (n full : ℕ) (es : List Event) → 1 ≤ n → n ≤ cpuPlaces → 1 ≤ full → full ≤ longestSlice → WellFormed (played es (fresh n full))
+reached-well-formed n full es h l low high = keep-played es (fresh n full) (fresh-well-formed n full h l low high)

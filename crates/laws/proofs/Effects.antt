@@ -15,7 +15,7 @@ use Rattle.bits.proofs.Search.{first-holds, first-before, zero-of-bits}
 use Rattle.cpupri.specs.Found.{maskFits}
 use Rattle.rules.specs.Lists.{occ, In, Falling}
 use Rattle.rules.specs.Machine.{Machine, Task, Column, taskOf, freeTask, prioOf, row, flag, allowed, allows, lowestAllowed, fresh}
-use Rattle.rules.specs.Machine.{free, asleep, runnable, fifo, rr, taskPlaces, cpuPlaces, fullSlice, lowestPriority, highestPriority}
+use Rattle.rules.specs.Machine.{free, asleep, runnable, fifo, rr, taskPlaces, cpuPlaces, longestSlice, lowestPriority, highestPriority}
 use Rattle.rules.specs.Machine.{store, write, withFlag, enqueueAt, enqueue, dequeue, requeue}
 use Rattle.rules.specs.WellFormed.{Shape, Fit, Sound, is-free, is-asleep, is-runnable, standing, WellFormed}
 use Rattle.rules.specs.Events.{Event, Kind, effect, effectOf, added, wakeCpu, woken, slept, reprioritised, reaffined, tickedTask, ticked, yielded, toFirst}
@@ -29,13 +29,15 @@ use Rattle.laws.proofs.Checks.{Accepted, accepted-checks, effect-is, in
 
 -- ---- a fresh machine
 
-pub fresh-well-formed : (n : ℕ) → 1 ≤ n → n ≤ cpuPlaces → WellFormed (fresh n)
+pub fresh-well-formed : (n full : ℕ) → 1 ≤ n → n ≤ cpuPlaces → 1 ≤ full → full ≤ longestSlice → WellFormed (fresh n full)
 unfolding tally
-fresh-well-formed n h l =
+fresh-well-formed n full h l low high =
     record {
       shape = record {
         some-cpu = h;
         cpus = l;
+        some-tick = low;
+        ticks = high;
         state = zeros-long;
         policy = zeros-long;
         prio = zeros-long;
@@ -47,10 +49,10 @@ fresh-well-formed n h l =
       };
       tasks = λ t s. is-free (all-free t);
       flags = λ c s. subst (λ (x : ℕ). x ≤ 1) (sym (getD-replicate n c 0 0 s)) zero-le;
-      rows = λ t c. subst (λ (r : List ℕ). occ t r ≡ standing (taskOf (fresh n) t) c) (sym (empty n c))
+      rows = λ t c. subst (λ (r : List ℕ). occ t r ≡ standing (taskOf (fresh n full) t) c) (sym (empty n c))
           (subst (λ (τ : Task). 0 ≡ standing τ c) (sym (all-free t)) refl);
-      home = λ t s. absurd (let z : taskOf (fresh n) t .state ≡ 0 = ap (λ (τ : Task). τ .state) (all-free t) in omega arith);
-      falling = λ c. subst (Falling (prioOf (fresh n))) (sym (empty n c)) tt;
+      home = λ t s. absurd (let z : taskOf (fresh n full) t .state ≡ 0 = ap (λ (τ : Task). τ .state) (all-free t) in omega arith);
+      falling = λ c. subst (Falling (prioOf (fresh n full))) (sym (empty n c)) tt;
     }
   where
     zeros-long : length {A = ℕ} (replicate taskPlaces 0) ≡ taskPlaces
@@ -66,13 +68,13 @@ fresh-well-formed n h l =
     empty (suc k) zero = refl
     empty (suc k) (suc c) = empty k c
 
-    all-free : (t : ℕ) → taskOf (fresh n) t ≡ freeTask
+    all-free : (t : ℕ) → taskOf (fresh n full) t ≡ freeTask
     all-free t = ap (λ (x : ℕ). record { state = x; policy = x; prio = x; cpu = x; slice = x; mask = x }) (zero-at taskPlaces t)
 
 -- ---- fitting tasks
 
-fit-state : (n v : ℕ) (τ : Task) → Fit n τ → Fit n (put Column.state v τ)
-fit-state n v τ f =
+fit-state : (n full v : ℕ) (τ : Task) → Fit n full τ → Fit n full (put Column.state v τ)
+fit-state n full v τ f =
     record {
       policy-low = f .policy-low;
       policy-high = f .policy-high;
@@ -85,8 +87,8 @@ fit-state n v τ f =
       mask-fits = f .mask-fits;
     }
 
-fit-prio : (n v : ℕ) (τ : Task) → Fit n τ → lowestPriority ≤ v → v ≤ highestPriority → Fit n (put Column.prio v τ)
-fit-prio n v τ f low high =
+fit-prio : (n full v : ℕ) (τ : Task) → Fit n full τ → lowestPriority ≤ v → v ≤ highestPriority → Fit n full (put Column.prio v τ)
+fit-prio n full v τ f low high =
     record {
       policy-low = f .policy-low;
       policy-high = f .policy-high;
@@ -99,8 +101,8 @@ fit-prio n v τ f low high =
       mask-fits = f .mask-fits;
     }
 
-fit-slice : (n v : ℕ) (τ : Task) → Fit n τ → 1 ≤ v → v ≤ fullSlice → Fit n (put Column.slice v τ)
-fit-slice n v τ f low high =
+fit-slice : (n full v : ℕ) (τ : Task) → Fit n full τ → 1 ≤ v → v ≤ full → Fit n full (put Column.slice v τ)
+fit-slice n full v τ f low high =
     record {
       policy-low = f .policy-low;
       policy-high = f .policy-high;
@@ -113,8 +115,8 @@ fit-slice n v τ f low high =
       mask-fits = f .mask-fits;
     }
 
-fit-mask : (n v : ℕ) (τ : Task) → Fit n τ → 0 < v → v < 2 ^ n → Fit n (put Column.mask v τ)
-fit-mask n v τ f nonzero small =
+fit-mask : (n full v : ℕ) (τ : Task) → Fit n full τ → 0 < v → v < 2 ^ n → Fit n full (put Column.mask v τ)
+fit-mask n full v τ f nonzero small =
     record {
       policy-low = f .policy-low;
       policy-high = f .policy-high;
@@ -128,10 +130,10 @@ fit-mask n v τ f nonzero small =
     }
 
 -- another task with the same state is as sound
-sound-with : (n : ℕ) (τ σ : Task) → Sound n τ → τ .state ≢ free → σ .state ≡ τ .state → (Fit n τ → Fit n σ) → Sound n σ
-sound-with n τ σ (is-free e) h s f = absurd (h (ap (λ (x : Task). x .state) e))
-sound-with n τ σ (is-asleep a g) h s f = is-asleep (s ∙ a) (f g)
-sound-with n τ σ (is-runnable r g) h s f = is-runnable (s ∙ r) (f g)
+sound-with : (n full : ℕ) (τ σ : Task) → Sound n full τ → τ .state ≢ free → σ .state ≡ τ .state → (Fit n full τ → Fit n full σ) → Sound n full σ
+sound-with n full τ σ (is-free e) h s f = absurd (h (ap (λ (x : Task). x .state) e))
+sound-with n full τ σ (is-asleep a g) h s f = is-asleep (s ∙ a) (f g)
+sound-with n full τ σ (is-runnable r g) h s f = is-runnable (s ∙ r) (f g)
 
 -- a mask that is not 0 and has no bit at N or above allows a CPU
 pub lowest-good : (k n : ℕ) → 0 < k → k < 2 ^ n → (first (bit k) n < n) × (bit k (first (bit k) n) ≡ true)
@@ -147,18 +149,18 @@ lowest-good k n nonzero small = go (ltb (first (bit k) n) n) refl
 -- ---- one column of a task that is not runnable, or one that says nothing about rows
 
 module _ (t : ℕ) (m : Machine) (w : WellFormed m) (place : t < taskPlaces) where
-  idle-write : (τ : Task) → taskOf m t .state ≢ runnable → Sound (m .n) τ → τ .state ≢ runnable → WellFormed (write t τ m)
+  idle-write : (τ : Task) → taskOf m t .state ≢ runnable → Sound (m .n) (m .full) τ → τ .state ≢ runnable → WellFormed (write t τ m)
   idle-write τ n s o =
-      rejoin-idle t (write t τ m) (apart-write t m (apart-idle t m w n) τ) (subst (Sound (m .n)) (sym new) s)
+      rejoin-idle t (write t τ m) (apart-write t m (apart-idle t m w n) τ) (subst (Sound (m .n) (m .full)) (sym new) s)
       (λ h. o (ap (λ (x : Task). x .state) (sym new) ∙ h))
     where
       new : taskOf (write t τ m) t ≡ τ
       new = write-same t τ m (w .shape) place
 
-  idle-prio : (v : ℕ) → taskOf m t .state ≢ runnable → Sound (m .n) (put Column.prio v (taskOf m t)) → WellFormed (store Column.prio t v m)
+  idle-prio : (v : ℕ) → taskOf m t .state ≢ runnable → Sound (m .n) (m .full) (put Column.prio v (taskOf m t)) → WellFormed (store Column.prio t v m)
   idle-prio v n s =
       rejoin-idle t (store Column.prio t v m) (apart-store t m (apart-idle t m w n) Column.prio v)
-      (subst (Sound (m .n)) (sym (store-same Column.prio t v m (w .shape) place)) s) n
+      (subst (Sound (m .n) (m .full)) (sym (store-same Column.prio t v m (w .shape) place)) s) n
 
   -- slice and mask do not matter to the rows
   module _ (l k : List ℕ) where
@@ -166,6 +168,7 @@ module _ (t : ℕ) (m : Machine) (w : WellFormed m) (place : t < taskPlaces) whe
     rest =
         record {
           n = m .n;
+          full = m .full;
           state = m .state;
           policy = m .policy;
           prio = m .prio;
@@ -176,7 +179,7 @@ module _ (t : ℕ) (m : Machine) (w : WellFormed m) (place : t < taskPlaces) whe
           flags = m .flags;
         }
 
-    keep-rest : Shape rest → ((u : ℕ) → u ≢ t → taskOf rest u ≡ taskOf m u) → Sound (m .n) (taskOf rest t)
+    keep-rest : Shape rest → ((u : ℕ) → u ≢ t → taskOf rest u ≡ taskOf m u) → Sound (m .n) (m .full) (taskOf rest t)
         → (taskOf m t .state ≡ runnable → allowed rest t (taskOf m t .cpu) ≡ true) → WellFormed rest
     keep-rest s same sound may =
         record {
@@ -188,25 +191,25 @@ module _ (t : ℕ) (m : Machine) (w : WellFormed m) (place : t < taskPlaces) whe
           falling = w .falling;
         }
       where
-        tasks : (u : ℕ) → u < taskPlaces → (u ≡ t) ⊎ (u ≢ t) → Sound (m .n) (taskOf rest u)
-        tasks u h (inl e) = subst (λ (x : ℕ). Sound (m .n) (taskOf rest x)) (sym e) sound
-        tasks u h (inr n) = subst (Sound (m .n)) (sym (same u n)) (w .tasks u h)
+        tasks : (u : ℕ) → u < taskPlaces → (u ≡ t) ⊎ (u ≢ t) → Sound (m .n) (m .full) (taskOf rest u)
+        tasks u h (inl e) = subst (λ (x : ℕ). Sound (m .n) (m .full) (taskOf rest x)) (sym e) sound
+        tasks u h (inr n) = subst (Sound (m .n) (m .full)) (sym (same u n)) (w .tasks u h)
 
         home : (u : ℕ) → taskOf m u .state ≡ runnable → (u ≡ t) ⊎ (u ≢ t) → allowed rest u (taskOf rest u .cpu) ≡ true
         home u h (inl e) =
             subst (λ (x : ℕ). allowed rest x (taskOf rest x .cpu) ≡ true) (sym e) (may (ap (λ (x : ℕ). taskOf m x .state) (sym e) ∙ h))
         home u h (inr n) = subst (λ (τ : Task). allows m (τ .mask) (τ .cpu) ≡ true) (sym (same u n)) (w .home u h)
 
-  keep-slice : (v : ℕ) → Sound (m .n) (put Column.slice v (taskOf m t)) → WellFormed (store Column.slice t v m)
+  keep-slice : (v : ℕ) → Sound (m .n) (m .full) (put Column.slice v (taskOf m t)) → WellFormed (store Column.slice t v m)
   keep-slice v s =
       keep-rest (set (m .slice) t v) (m .mask) (shape-store m (w .shape) Column.slice t v) (λ u n. store-other Column.slice t v u m n)
-      (subst (Sound (m .n)) (sym (store-same Column.slice t v m (w .shape) place)) s) (w .home t)
+      (subst (Sound (m .n) (m .full)) (sym (store-same Column.slice t v m (w .shape) place)) s) (w .home t)
 
-  keep-mask : (v : ℕ) → Sound (m .n) (put Column.mask v (taskOf m t))
+  keep-mask : (v : ℕ) → Sound (m .n) (m .full) (put Column.mask v (taskOf m t))
       → (taskOf m t .state ≡ runnable → allows m v (taskOf m t .cpu) ≡ true) → WellFormed (store Column.mask t v m)
   keep-mask v s may =
       keep-rest (m .slice) (set (m .mask) t v) (shape-store m (w .shape) Column.mask t v) (λ u n. store-other Column.mask t v u m n)
-      (subst (Sound (m .n)) (sym new) s)
+      (subst (Sound (m .n) (m .full)) (sym new) s)
       (λ h. subst (λ (τ : Task). allows m (τ .mask) (taskOf m t .cpu) ≡ true) (sym new) (may h))
     where
       new : taskOf (store Column.mask t v m) t ≡ put Column.mask v (taskOf m t)
@@ -217,7 +220,7 @@ module _ (t : ℕ) (m : Machine) (w : WellFormed m) (place : t < taskPlaces) whe
   pub apart-wake : taskOf m t .state ≢ runnable → Apart t (store Column.state t runnable m)
   apart-wake n = apart-store t m (apart-idle t m w n) Column.state runnable
 
-  wake-good : Fit (m .n) (taskOf m t) → (wakeCpu m t < m .n) × (allows m (taskOf m t .mask) (wakeCpu m t) ≡ true)
+  wake-good : Fit (m .n) (m .full) (taskOf m t) → (wakeCpu m t < m .n) × (allows m (taskOf m t .mask) (wakeCpu m t) ≡ true)
   wake-good f = go (allows m (taskOf m t .mask) (taskOf m t .cpu)) refl
     where
       go : (b : Bool) → allows m (taskOf m t .mask) (taskOf m t .cpu) ≡ b
@@ -229,10 +232,10 @@ module _ (t : ℕ) (m : Machine) (w : WellFormed m) (place : t < taskPlaces) whe
   keep-wake : taskOf m t .state ≡ asleep → WellFormed (woken t m)
   keep-wake s =
       rejoin-enqueue t (wakeCpu m t) (store Column.state t runnable m) (apart-wake (λ h. omega arith)) place
-      (subst (Fit (m .n)) (sym new) (fit-state (m .n) runnable (taskOf m t) fit)) (ap (λ (τ : Task). τ .state) new) (wake-good fit .0) (wake-good fit .1)
+      (subst (Fit (m .n) (m .full)) (sym new) (fit-state (m .n) (m .full) runnable (taskOf m t) fit)) (ap (λ (τ : Task). τ .state) new) (wake-good fit .0) (wake-good fit .1)
     where
-      fit : Fit (m .n) (taskOf m t)
-      fit = fit-of (m .n) (taskOf m t) (w .tasks t place) (λ h. omega arith)
+      fit : Fit (m .n) (m .full) (taskOf m t)
+      fit = fit-of (m .n) (m .full) (taskOf m t) (w .tasks t place) (λ h. omega arith)
 
       new : taskOf (store Column.state t runnable m) t ≡ put Column.state runnable (taskOf m t)
       new = store-same Column.state t runnable m (w .shape) place
@@ -243,7 +246,7 @@ module _ (t : ℕ) (m : Machine) (w : WellFormed m) (place : t < taskPlaces) whe
     abbrev home : ℕ
     home = taskOf m t .cpu
 
-    fit : Fit (m .n) (taskOf m t)
+    fit : Fit (m .n) (m .full) (taskOf m t)
     fit = runnable-fit m t w runs
 
     pub apart-home : Apart t (dequeue t home m)
@@ -252,7 +255,7 @@ module _ (t : ℕ) (m : Machine) (w : WellFormed m) (place : t < taskPlaces) whe
     keep-sleep : WellFormed (slept t m)
     keep-sleep =
         rejoin-idle t (slept t m) (apart-store t (dequeue t home m) apart-home Column.state asleep)
-        (subst (Sound (m .n)) (sym new) (is-asleep refl (fit-state (m .n) asleep (taskOf m t) fit)))
+        (subst (Sound (m .n) (m .full)) (sym new) (is-asleep refl (fit-state (m .n) (m .full) asleep (taskOf m t) fit)))
         (λ h. let z : taskOf (slept t m) t .state ≡ asleep = ap (λ (τ : Task). τ .state) new in omega arith)
       where
         new : taskOf (slept t m) t ≡ put Column.state asleep (taskOf m t)
@@ -265,7 +268,7 @@ module _ (t : ℕ) (m : Machine) (w : WellFormed m) (place : t < taskPlaces) whe
         → WellFormed (enqueueAt front t home (store Column.prio t v (dequeue t home m)))
     keep-prio front v low high =
         rejoin-at front t home (store Column.prio t v (dequeue t home m)) (apart-prio v) place
-        (subst (Fit (m .n)) (sym new) (fit-prio (m .n) v (taskOf m t) fit low high)) runs (fit .cpu) (w .home t runs)
+        (subst (Fit (m .n) (m .full)) (sym new) (fit-prio (m .n) (m .full) v (taskOf m t) fit low high)) runs (fit .cpu) (w .home t runs)
       where
         new : taskOf (store Column.prio t v (dequeue t home m)) t ≡ put Column.prio v (taskOf m t)
         new = store-same Column.prio t v (dequeue t home m) (apart-home .shape) place
@@ -276,7 +279,7 @@ module _ (t : ℕ) (m : Machine) (w : WellFormed m) (place : t < taskPlaces) whe
     move-mask : (k : ℕ) → 0 < k → k < 2 ^ m .n → WellFormed (enqueue t (lowestAllowed m k) (store Column.mask t k (dequeue t home m)))
     move-mask k nonzero small =
         rejoin-enqueue t (lowestAllowed m k) (store Column.mask t k (dequeue t home m)) (apart-mask k) place
-        (subst (Fit (m .n)) (sym new) (fit-mask (m .n) k (taskOf m t) fit nonzero small)) runs (lowest-good k (m .n) nonzero small .0)
+        (subst (Fit (m .n) (m .full)) (sym new) (fit-mask (m .n) (m .full) k (taskOf m t) fit nonzero small)) runs (lowest-good k (m .n) nonzero small .0)
         (subst (λ (τ : Task). allows m (τ .mask) (lowestAllowed m k) ≡ true) (sym new) (lowest-good k (m .n) nonzero small .1))
       where
         new : taskOf (store Column.mask t k (dequeue t home m)) t ≡ put Column.mask k (taskOf m t)
@@ -308,16 +311,16 @@ module _ (t : ℕ) (m : Machine) (w : WellFormed m) (place : t < taskPlaces) whe
       go true e = changed (eqb (taskOf m t .prio) v) (eqb-true (taskOf m t .state) runnable e)
       go false e =
           idle-prio t m w place v (eqb-false (taskOf m t .state) runnable e)
-          (sound-with (m .n) (taskOf m t) (put Column.prio v (taskOf m t)) (w .tasks t place) used refl
-          (λ f. fit-prio (m .n) v (taskOf m t) f low high))
+          (sound-with (m .n) (m .full) (taskOf m t) (put Column.prio v (taskOf m t)) (w .tasks t place) used refl
+          (λ f. fit-prio (m .n) (m .full) v (taskOf m t) f low high))
 
   keep-reaffined : (k : ℕ) → taskOf m t .state ≢ free → 0 < k → k < 2 ^ m .n → WellFormed (reaffined t k m)
   keep-reaffined k used nonzero small = go (eqb (taskOf m t .state) runnable) refl
     where
-      sound : Sound (m .n) (put Column.mask k (taskOf m t))
+      sound : Sound (m .n) (m .full) (put Column.mask k (taskOf m t))
       sound =
-          sound-with (m .n) (taskOf m t) (put Column.mask k (taskOf m t)) (w .tasks t place) used refl
-          (λ f. fit-mask (m .n) k (taskOf m t) f nonzero small)
+          sound-with (m .n) (m .full) (taskOf m t) (put Column.mask k (taskOf m t)) (w .tasks t place) used refl
+          (λ f. fit-mask (m .n) (m .full) k (taskOf m t) f nonzero small)
 
       queued : (b : Bool) → allows m k (taskOf m t .cpu) ≡ b → taskOf m t .state ≡ runnable
           → WellFormed (cond b (store Column.mask t k m) (enqueue t (lowestAllowed m k) (store Column.mask t k (dequeue t (taskOf m t .cpu) m))))
@@ -356,18 +359,18 @@ module _ (c : ℕ) (m : Machine) (w : WellFormed m) where
       again = keep-first t s h
 
       ends : (b : Bool) → eqb (taskOf m t .slice - 1) 0 ≡ b
-          → WellFormed (cond b (store Column.slice t fullSlice (requeue t c m)) (store Column.slice t (taskOf m t .slice - 1) m))
+          → WellFormed (cond b (store Column.slice t (m .full) (requeue t c m)) (store Column.slice t (taskOf m t .slice - 1) m))
       ends true e =
-          keep-slice t (requeue t c m) again place fullSlice
-          (is-runnable s (fit-slice (m .n) fullSlice (taskOf (requeue t c m) t) (runnable-fit (requeue t c m) t again s) (omega arith) (omega arith)))
+          keep-slice t (requeue t c m) again place (m .full)
+          (is-runnable s (fit-slice (m .n) (m .full) (m .full) (taskOf (requeue t c m) t) (runnable-fit (requeue t c m) t again s) (w .shape .some-tick) (omega arith)))
       ends false e =
-          let f : Fit (m .n) (taskOf m t) = runnable-fit m t w s in
+          let f : Fit (m .n) (m .full) (taskOf m t) = runnable-fit m t w s in
           let left : taskOf m t .slice - 1 ≢ 0 = eqb-false (taskOf m t .slice - 1) 0 e in
-          let high : taskOf m t .slice ≤ fullSlice = f .slice-high in
-          keep-slice t m w place (taskOf m t .slice - 1) (is-runnable s (fit-slice (m .n) (taskOf m t .slice - 1) (taskOf m t) f (omega arith) (omega arith)))
+          let high : taskOf m t .slice ≤ m .full = f .slice-high in
+          keep-slice t m w place (taskOf m t .slice - 1) (is-runnable s (fit-slice (m .n) (m .full) (taskOf m t .slice - 1) (taskOf m t) f (omega arith) (omega arith)))
 
       policy : (b : Bool)
-          → WellFormed (cond b (cond (eqb (taskOf m t .slice - 1) 0) (store Column.slice t fullSlice (requeue t c m)) (store Column.slice t (taskOf m t .slice - 1) m)) m)
+          → WellFormed (cond b (cond (eqb (taskOf m t .slice - 1) 0) (store Column.slice t (m .full) (requeue t c m)) (store Column.slice t (taskOf m t .slice - 1) m)) m)
       policy true = ends (eqb (taskOf m t .slice - 1) 0) refl
       policy false = w
 
@@ -384,6 +387,8 @@ module _ (c : ℕ) (m : Machine) (w : WellFormed m) where
         shape = record {
           some-cpu = s .some-cpu;
           cpus = s .cpus;
+          some-tick = s .some-tick;
+          ticks = s .ticks;
           state = s .state;
           policy = s .policy;
           prio = s .prio;

@@ -12,7 +12,7 @@ use borrow.Author.Tests.{eqb-true, eq-eqb, not-false}
 use Rattle.bits.proofs.Tests.{and-both}
 use Rattle.cpupri.specs.Record.{recordOf, freshLevels}
 use Rattle.levels.specs.declared.record.Record.{Record}
-use Rattle.rules.specs.Machine.{Machine, Column, taskOf, row, fresh, levels, taskPlaces, cpuPlaces, runnable, rr, fullSlice}
+use Rattle.rules.specs.Machine.{Machine, Column, taskOf, row, fresh, levels, taskPlaces, cpuPlaces, runnable, rr}
 use Rattle.rules.specs.Machine.{allows, lowestAllowed, store, enqueueAt, enqueue, dequeue, requeue}
 use Rattle.rules.specs.WellFormed.{Shape, WellFormed, wellFormed}
 use Rattle.rules.specs.Events.{Event, Kind, effect, effectOf, tickedTask, toFirst}
@@ -26,10 +26,10 @@ use Rattle.laws.proofs.Bools.{both}
 use Rattle.laws.proofs.Apart.{in-row, runnable-place}
 use Rattle.laws.proofs.Checks.{Accepted, accepted-checks, effect-is, outcome-accepted, outcome-moves, passes, passed}
 use Rattle.laws.proofs.Effects.{fresh-well-formed}
-use Rattle.laws.proofs.Runs.{settle-run, run-n}
+use Rattle.laws.proofs.Runs.{settle-run, run-keeps}
 use Rattle.laws.proofs.Demand3.{demand3, keep-outcome}
 use Rattle.laws.proofs.Room.{row-fits}
-use Rattle.laws.proofs.Test.{size-good, good-size, shape-shaped, test-well-formed, well-formed-test}
+use Rattle.laws.proofs.Test.{size-good, good-size, slice-good, good-slice, shape-shaped, test-well-formed, well-formed-test}
 use Rattle.laws.proofs.Tables.{length-rowsOf, Fitting, length-flat, read-written, written-stored, test-stored, stored-test}
 use Rattle.laws.proofs.Record.{record-is, is-record, levels-fresh}
 use Rattle.laws.proofs.Log.{length-logged}
@@ -50,11 +50,15 @@ lengths-shape n s h =
     let i = both _ _ (g .0) in
     let j = both _ _ (i .0) in
     let k = both _ _ (j .0) in
-    let z = size-good n (k .0) in
+    let l = both _ _ (k .0) in
+    let y = size-good n (l .0) in
+    let z = slice-good (s .full) (l .1) in
     let counts : length (s .counts) ≡ n = eqb-true (length (s .counts)) n (c .1) in (
       record {
-        some-cpu = z .0;
-        cpus = z .1;
+        some-cpu = y .0;
+        cpus = y .1;
+        some-tick = z .0;
+        ticks = z .1;
         state = eqb-true (length (s .state)) taskPlaces (k .1);
         policy = eqb-true (length (s .policy)) taskPlaces (j .1);
         prio = eqb-true (length (s .prio)) taskPlaces (i .1);
@@ -72,8 +76,8 @@ lengths-shape n s h =
 shape-lengths : (n : ℕ) (s : Tables) → Shape (machineOf n s) → length (s .rows) ≡ taskPlaces * n → length (s .counts) ≡ n → length (s .log) ≡ logPlaces
     → lengthsFit n s ≡ true
 shape-lengths n s p rows counts log =
-    and-both _ _ (and-both _ _ (and-both _ _ (and-both _ _ (and-both _ _ (and-both _ _ (and-both _ _ (and-both _ _ (and-both _ _ (and-both _ _
-    (good-size n (p .some-cpu) (p .cpus)) (eq-eqb (length (s .state)) taskPlaces (p .state)))
+    and-both _ _ (and-both _ _ (and-both _ _ (and-both _ _ (and-both _ _ (and-both _ _ (and-both _ _ (and-both _ _ (and-both _ _ (and-both _ _ (and-both _ _
+    (good-size n (p .some-cpu) (p .cpus)) (good-slice (s .full) (p .some-tick) (p .ticks))) (eq-eqb (length (s .state)) taskPlaces (p .state)))
     (eq-eqb (length (s .policy)) taskPlaces (p .policy))) (eq-eqb (length (s .prio)) taskPlaces (p .prio)))
     (eq-eqb (length (s .cpu)) taskPlaces (p .cpu))) (eq-eqb (length (s .slice)) taskPlaces (p .slice)))
     (eq-eqb (length (s .mask)) taskPlaces (p .mask))) (eq-eqb (length (s .rows)) (taskPlaces * n) rows)) (eq-eqb (length (s .counts)) n counts))
@@ -133,6 +137,7 @@ module _ (m : Machine) (w : WellFormed m) (log : List ℕ) where
       ap (λ (rs : List (List ℕ)).
       record {
         n = m .n;
+        full = m .full;
         state = m .state;
         policy = m .policy;
         prio = m .prio;
@@ -170,63 +175,70 @@ unfolding made firstFailing
 made-refused n r s h = ap (λ (b : Bool). madeBy (cond (not b) badSize 0) n r s) h
 
 -- else the fresh machine, with the fresh record, whatever was lent
-pub made-fresh : (n : ℕ) (r : Record) (s : Tables) → lengthsFit n s ≡ true → made n r s ≡ written 0 (fresh n) (replicate logPlaces nothing)
+pub made-fresh : (n : ℕ) (r : Record) (s : Tables) → lengthsFit n s ≡ true → made n r s ≡ written 0 (fresh n (s .full)) (replicate logPlaces nothing)
 unfolding made firstFailing
 made-fresh n r s h = ap (λ (b : Bool). madeBy (cond (not b) badSize 0) n r s) h
 
 pub made-record : (n : ℕ) (r : Record) (s : Tables) → lengthsFit n s ≡ true → made n r s .cpupri ≡ recordOf (freshLevels n)
 made-record n r s h =
-    ap (λ (q : Result). q .cpupri) (made-fresh n r s h) ∙ ap recordOf (levels-fresh n (lengths-shape n s h .0 .cpus))
+    ap (λ (q : Result). q .cpupri) (made-fresh n r s h) ∙ ap recordOf (levels-fresh n (s .full) (lengths-shape n s h .0 .cpus))
 
 pub made-good : (n : ℕ) (r : Record) (s : Tables) → lengthsFit n s ≡ true → Good n (made n r s .cpupri) (made n r s .tables)
 made-good n r s h =
+    let p = lengths-shape n s h .0 in
     subst (λ (q : Result). Good n (q .cpupri) (q .tables)) (sym (made-fresh n r s h))
-    (written-good (fresh n) (fresh-well-formed n (lengths-shape n s h .0 .some-cpu) (lengths-shape n s h .0 .cpus)) (replicate logPlaces nothing)
+    (written-good (fresh n (s .full)) (fresh-well-formed n (s .full) (p .some-cpu) (p .cpus) (p .some-tick) (p .ticks)) (replicate logPlaces nothing)
     (length-replicate logPlaces nothing))
 
 -- ---- event
 
--- N stays
+-- what no event changes: N and the full slice
+abbrev pub fixed : Machine → ℕ × ℕ
+fixed m = (m .n, m .full)
 
 -- one of three machines, as two tests say
-three-n : (a b : Bool) (x y z : Machine) (n : ℕ) → x .n ≡ n → y .n ≡ n → z .n ≡ n → cond a (cond b x y) z .n ≡ n
-three-n true true x y z n p q r = p
-three-n true false x y z n p q r = q
-three-n false b x y z n p q r = r
+three-fixed : (a b : Bool) (x y z : Machine) (f : ℕ × ℕ) → fixed x ≡ f → fixed y ≡ f → fixed z ≡ f → fixed (cond a (cond b x y) z) ≡ f
+three-fixed true true x y z f p q r = p
+three-fixed true false x y z f p q r = q
+three-fixed false b x y z f p q r = r
 
-first-n : (f : ℕ → Machine) (m : Machine) (r : List ℕ) (n : ℕ) → m .n ≡ n → ((t : ℕ) → f t .n ≡ n) → toFirst f m r .n ≡ n
-first-n f m [] n p q = p
-first-n f m (t ∷ ts) n p q = q t
+first-fixed : (g : ℕ → Machine) (m : Machine) (r : List ℕ) (f : ℕ × ℕ) → fixed m ≡ f → ((t : ℕ) → fixed (g t) ≡ f) → fixed (toFirst g m r) ≡ f
+first-fixed g m [] f p q = p
+first-fixed g m (t ∷ ts) f p q = q t
 
-ticked-n : (t c : ℕ) (m : Machine) → tickedTask t c m .n ≡ m .n
-ticked-n t c m =
-    three-n (eqb (taskOf m t .policy) rr) (eqb (taskOf m t .slice - 1) 0) (store Column.slice t fullSlice (requeue t c m))
-    (store Column.slice t (taskOf m t .slice - 1) m) m (m .n) refl refl refl
+ticked-fixed : (t c : ℕ) (m : Machine) → fixed (tickedTask t c m) ≡ fixed m
+ticked-fixed t c m =
+    three-fixed (eqb (taskOf m t .policy) rr) (eqb (taskOf m t .slice - 1) 0) (store Column.slice t (m .full) (requeue t c m))
+    (store Column.slice t (taskOf m t .slice - 1) m) m (fixed m) refl refl refl
 
-pub effect-n : (k : Kind) (e : Event) (m : Machine) → effectOf k e m .n ≡ m .n
-effect-n add e m = refl
-effect-n remove e m = refl
-effect-n wake e m = refl
-effect-n sleep e m = refl
-effect-n set-priority e m =
+effect-fixed : (k : Kind) (e : Event) (m : Machine) → fixed (effectOf k e m) ≡ fixed m
+effect-fixed add e m = refl
+effect-fixed remove e m = refl
+effect-fixed wake e m = refl
+effect-fixed sleep e m = refl
+effect-fixed set-priority e m =
     let t = e .who in
-    three-n (eqb (taskOf m t .state) runnable) (eqb (taskOf m t .prio) (e .b)) m
-    (enqueueAt (ltb (e .b) (taskOf m t .prio)) t (taskOf m t .cpu) (store Column.prio t (e .b) (dequeue t (taskOf m t .cpu) m))) (store Column.prio t (e .b) m) (m .n) refl refl refl
-effect-n set-affinity e m =
+    three-fixed (eqb (taskOf m t .state) runnable) (eqb (taskOf m t .prio) (e .b)) m
+    (enqueueAt (ltb (e .b) (taskOf m t .prio)) t (taskOf m t .cpu) (store Column.prio t (e .b) (dequeue t (taskOf m t .cpu) m)))
+    (store Column.prio t (e .b) m) (fixed m) refl refl refl
+effect-fixed set-affinity e m =
     let t = e .who in
-    three-n (eqb (taskOf m t .state) runnable) (allows m (e .mask) (taskOf m t .cpu)) (store Column.mask t (e .mask) m)
-    (enqueue t (lowestAllowed m (e .mask)) (store Column.mask t (e .mask) (dequeue t (taskOf m t .cpu) m))) (store Column.mask t (e .mask) m) (m .n)
+    three-fixed (eqb (taskOf m t .state) runnable) (allows m (e .mask) (taskOf m t .cpu)) (store Column.mask t (e .mask) m)
+    (enqueue t (lowestAllowed m (e .mask)) (store Column.mask t (e .mask) (dequeue t (taskOf m t .cpu) m))) (store Column.mask t (e .mask) m) (fixed m)
     refl refl refl
-effect-n tick e m = first-n (λ t. tickedTask t (e .who) m) m (row m (e .who)) (m .n) refl (λ t. ticked-n t (e .who) m)
-effect-n yield e m = first-n (λ t. requeue t (e .who) m) m (row m (e .who)) (m .n) refl (λ t. refl)
-effect-n set-ordinary e m = refl
+effect-fixed tick e m = first-fixed (λ t. tickedTask t (e .who) m) m (row m (e .who)) (fixed m) refl (λ t. ticked-fixed t (e .who) m)
+effect-fixed yield e m = first-fixed (λ t. requeue t (e .who) m) m (row m (e .who)) (fixed m) refl (λ t. refl)
+effect-fixed set-ordinary e m = refl
 
-pub outcome-n : (m : Machine) (e : Event) → refusal m e ≡ 0 → outcome m e .machine .n ≡ m .n
-outcome-n m e h =
-    let a : Accepted m e = accepted-checks m e h in
-    ap (λ (o : Outcome). o .machine .n) (outcome-accepted m e h)
-    ∙ run-n (settle-run (effect e m .n) (effect e m))
-    ∙ ap (λ (x : Machine). x .n) (effect-is m e a) ∙ effect-n (a .kind) e m
+-- an accepted event's own effect leaves them, and so does all of it
+pub start-fixed : (m : Machine) (e : Event) → refusal m e ≡ 0 → fixed (effect e m) ≡ fixed m
+start-fixed m e h = let a : Accepted m e = accepted-checks m e h in ap fixed (effect-is m e a) ∙ effect-fixed (a .kind) e m
+
+outcome-fixed : (m : Machine) (e : Event) → refusal m e ≡ 0 → fixed (outcome m e .machine) ≡ fixed m
+outcome-fixed m e h =
+    ap (λ (o : Outcome). fixed (o .machine)) (outcome-accepted m e h)
+    ∙ run-keeps fixed (λ v m. refl) (settle-run (effect e m .n) (effect e m))
+    ∙ start-fixed m e h
 
 -- the answer to an event is the check's; where that is 0, it is the event's own
 module _ (n : ℕ) (r : Record) (s : Tables) (e : Event) where
@@ -295,12 +307,14 @@ module _ (n : ℕ) (r : Record) (s : Tables) (e : Event) (h : eventAnswer n r s 
   after-demand = demand3 before e (good-before .machine) takes
 
   same-n : done .machine .n ≡ n
-  same-n = outcome-n before e takes
+  same-n = ap (λ (f : ℕ × ℕ). f .0) (outcome-fixed before e takes)
 
   pub start-n : effect e before .n ≡ n
-  start-n =
-      let a : Accepted before e = accepted-checks before e takes in
-      ap (λ (x : Machine). x .n) (effect-is before e a) ∙ effect-n (a .kind) e before
+  start-n = ap (λ (f : ℕ × ℕ). f .0) (start-fixed before e takes)
+
+  -- the tables come back with the full slice that they were lent with
+  pub start-full : effect e before .full ≡ s .full
+  start-full = ap (λ (f : ℕ × ℕ). f .1) (start-fixed before e takes)
 
   -- the log has room: at most 63 moves
   log-fits : length (logged (done .log) (s .log)) ≡ logPlaces

@@ -22,7 +22,7 @@ use Rattle.rules.specs.Migration.{movable, destination}
 use Rattle.laws.proofs.Choice.{movable-one, movable-by, Target, target-of, target-same}
 use Rattle.laws.proofs.Record.{length-levels, levels-below}
 
-module _ (m : Machine) (w : WellFormed m) (t : ℕ) (fit : Fit (m .n) (taskOf m t)) where
+module _ (m : Machine) (w : WellFormed m) (t : ℕ) (fit : Fit (m .n) (m .full) (taskOf m t)) where
   abbrev mask : ℕ
   mask = taskOf m t .mask
 

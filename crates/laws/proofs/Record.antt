@@ -64,7 +64,7 @@ level-range m c w h = go (row m c) refl
         → (rowLevel (prioOf m) (flag m c) r < levelCount) × (rowLevel (prioOf m) (flag m c) r ≢ unused)
     go [] e = let f : flag m c ≤ 1 = w .flags c h in omega arith
     go (t ∷ ts) e =
-        let f : Fit (m .n) (taskOf m t) = runnable-fit m t w (in-row m t c w (subst (In t) (sym e) (in-here t ts)) .0) in
+        let f : Fit (m .n) (m .full) (taskOf m t) = runnable-fit m t w (in-row m t c w (subst (In t) (sym e) (in-here t ts)) .0) in
         let low : lowestPriority ≤ prioOf m t = f .prio-low in
         let high : prioOf m t ≤ highestPriority = f .prio-high in
         omega arith
@@ -106,21 +106,21 @@ is-record m r w e =
 
 -- ---- a fresh machine's levels
 
-empty-row : (n c : ℕ) → row (fresh n) c ≡ []
-empty-row zero c = refl
-empty-row (suc n) zero = refl
-empty-row (suc n) (suc c) = empty-row n c
+empty-row : (n full c : ℕ) → row (fresh n full) c ≡ []
+empty-row zero full c = refl
+empty-row (suc n) full zero = refl
+empty-row (suc n) full (suc c) = empty-row n full c
 
-pub levels-fresh : (n : ℕ) → n ≤ cpuPlaces → levels (fresh n) ≡ freshLevels n
-levels-fresh n l =
-    ext-getD 0 (levels (fresh n)) (freshLevels n) (length-levels (fresh n) l ∙ sym (length-fresh n l))
-    (λ c h. go c (subst (λ (x : ℕ). c < x) (length-levels (fresh n) l) h) (ltb c n) refl)
+pub levels-fresh : (n full : ℕ) → n ≤ cpuPlaces → levels (fresh n full) ≡ freshLevels n
+levels-fresh n full l =
+    ext-getD 0 (levels (fresh n full)) (freshLevels n) (length-levels (fresh n full) l ∙ sym (length-fresh n l))
+    (λ c h. go c (subst (λ (x : ℕ). c < x) (length-levels (fresh n full) l) h) (ltb c n) refl)
   where
-    go : (c : ℕ) → c < cpuPlaces → (b : Bool) → ltb c n ≡ b → getD (levels (fresh n)) c 0 ≡ getD (freshLevels n) c 0
+    go : (c : ℕ) → c < cpuPlaces → (b : Bool) → ltb c n ≡ b → getD (levels (fresh n full)) c 0 ≡ getD (freshLevels n) c 0
     go c h true e =
         let k : c < n = ltb-true c n e in
-        levels-below (fresh n) c k
-        ∙ ap (rowLevel (prioOf (fresh n)) (flag (fresh n) c)) (empty-row n c)
+        levels-below (fresh n full) c k
+        ∙ ap (rowLevel (prioOf (fresh n full)) (flag (fresh n full) c)) (empty-row n full c)
         ∙ getD-replicate n c 0 0 k ∙ sym (fresh-below n c k)
     go c h false e =
-        let k : n ≤ c = ltb-false c n e in levels-above (fresh n) c k h ∙ sym (fresh-above n c k h)
+        let k : n ≤ c = ltb-false c n e in levels-above (fresh n full) c k h ∙ sym (fresh-above n c k h)

@@ -88,11 +88,13 @@ write-same t τ m s h =
 module _ (m : Machine) (s : Shape m) where
   pub shape-columns : (a b c d e f : List ℕ) → length a ≡ taskPlaces → length b ≡ taskPlaces → length c ≡ taskPlaces → length d ≡ taskPlaces
       → length e ≡ taskPlaces → length f ≡ taskPlaces
-      → Shape (record { n = m .n; state = a; policy = b; prio = c; cpu = d; slice = e; mask = f; rows = m .rows; flags = m .flags })
+      → Shape (record { n = m .n; full = m .full; state = a; policy = b; prio = c; cpu = d; slice = e; mask = f; rows = m .rows; flags = m .flags })
   shape-columns a b c d e f ha hb hc hd he hf =
       record {
         some-cpu = s .some-cpu;
         cpus = s .cpus;
+        some-tick = s .some-tick;
+        ticks = s .ticks;
         state = ha;
         policy = hb;
         prio = hc;
@@ -122,6 +124,8 @@ module _ (m : Machine) (s : Shape m) where
       record {
         some-cpu = s .some-cpu;
         cpus = s .cpus;
+        some-tick = s .some-tick;
+        ticks = s .ticks;
         state = s .state;
         policy = s .policy;
         prio = s .prio;

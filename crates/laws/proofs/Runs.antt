@@ -49,9 +49,6 @@ run-keeps f h out = refl
 run-keeps f h (stop n) = refl
 run-keeps f h (step {m = m} {v = v} n r) = run-keeps f h r ∙ h v m
 
-pub run-n : {k : ℕ} {m : Machine} {l : List Move} {e : Machine} → Run k m l e → e .n ≡ m .n
-run-n r = run-keeps (λ (m : Machine). m .n) (λ v m. refl) r
-
 -- ---- priorities never rise along the log
 
 -- the mover is movable, so it is at most the cap

@@ -8,7 +8,7 @@ use Prim.Native.Nat.{ℕ, zero, suc, _≤_}
 use native.Mathlib.Omega.{arith}
 use lib.ListN.{getD, replicate}
 use Rattle.rules.specs.Lists.{In}
-use Rattle.rules.specs.Machine.{Machine, cpuPlaces, fresh}
+use Rattle.rules.specs.Machine.{Machine, cpuPlaces, longestSlice, fresh}
 use Rattle.rules.specs.WellFormed.{WellFormed}
 use Rattle.rules.specs.Events.{Event, effect}
 use Rattle.rules.specs.Refusals.{refusal}
@@ -42,18 +42,20 @@ outcome-settled m e w n = go (refusal m e) refl
     go (suc r) h = n
 
 -- a fresh machine has no task
-pub fresh-settled : (n : ℕ) → 1 ≤ n → n ≤ cpuPlaces → next (fresh n) ≡ none
-fresh-settled n h l = go (next (fresh n)) refl
+pub fresh-settled : (n full : ℕ) → 1 ≤ n → n ≤ cpuPlaces → 1 ≤ full → full ≤ longestSlice → next (fresh n full) ≡ none
+fresh-settled n full h l low high = go (next (fresh n full)) refl
   where
     empty : (k i : ℕ) → _≡_ {A = List ℕ} (getD (replicate k []) i []) []
     empty zero i = refl
     empty (suc k) zero = refl
     empty (suc k) (suc i) = empty k i
 
-    go : (o : Option Move) → next (fresh n) ≡ o → next (fresh n) ≡ none
+    go : (o : Option Move) → next (fresh n full) ≡ o → next (fresh n full) ≡ none
     go none e = e
     go (some v) e =
-        absurd (not-in-nil (v .task) (subst (λ (r : List ℕ). In (v .task) (tail r)) (empty n (v .origin)) (chosen (fresh n) v (fresh-well-formed n h l) e .waits)))
+        absurd
+        (not-in-nil (v .task)
+        (subst (λ (r : List ℕ). In (v .task) (tail r)) (empty n (v .origin)) (chosen (fresh n full) v (fresh-well-formed n full h l low high) e .waits)))
 
 -- so every machine that events reach from a settled one is settled, and from a fresh one
 pub played-settled : (es : List Event) (m : Machine) → WellFormed m → next m ≡ none → next (played es m) ≡ none
@@ -61,8 +63,8 @@ unfolding played
 played-settled [] m w n = n
 played-settled (e ∷ es) m w n = played-settled es (outcome m e .machine) (keep-outcome m e w) (outcome-settled m e w n)
 
-pub reached-settled : (n : ℕ) (es : List Event) → 1 ≤ n → n ≤ cpuPlaces → next (played es (fresh n)) ≡ none
-reached-settled n es h l = played-settled es (fresh n) (fresh-well-formed n h l) (fresh-settled n h l)
+pub reached-settled : (n full : ℕ) (es : List Event) → 1 ≤ n → n ≤ cpuPlaces → 1 ≤ full → full ≤ longestSlice → next (played es (fresh n full)) ≡ none
+reached-settled n full es h l low high = played-settled es (fresh n full) (fresh-well-formed n full h l low high) (fresh-settled n full h l low high)
 
 -- ---- what an event hands back
 

@@ -12,9 +12,9 @@ use lib.ListN.{length, getD, List·getD-eq-default}
 use borrow.Author.Tests.{eqb-true, eq-eqb, ne-eqb, leb-true, le-leb, ltb-true, ltb-false, lt-ltb}
 use Rattle.rules.specs.Lists.{occ, In, Falling, each}
 use Rattle.rules.specs.Machine.{Machine, Task, taskOf, freeTask, prioOf, row, flag, allows, free, asleep, runnable, fifo, rr, taskPlaces, cpuPlaces}
-use Rattle.rules.specs.Machine.{lowestPriority, highestPriority, fullSlice}
+use Rattle.rules.specs.Machine.{lowestPriority, highestPriority, longestSlice}
 use Rattle.rules.specs.WellFormed.{Shape, Fit, Sound, is-free, is-asleep, is-runnable, standing, WellFormed}
-use Rattle.rules.specs.WellFormed.{shaped, gathered, tasks, zeros, fits, soundTask, falls, soundRow, wellFormed}
+use Rattle.rules.specs.WellFormed.{sliceFits, shaped, gathered, tasks, zeros, fits, soundTask, falls, soundRow, wellFormed}
 use Rattle.cpupri.specs.Found.{sizeFits}
 use Rattle.bits.proofs.Tests.{and-both}
 use Rattle.laws.proofs.Bools.{both}
@@ -100,7 +100,7 @@ module _ (m : Machine) (s : Shape m) where
       gathered-at (m .state) (m .policy) (m .prio) (m .cpu) (m .slice) (m .mask) t (subst (λ (n : ℕ). t < n) (sym (s .state)) h)
       (s .policy ∙ sym (s .state)) (s .prio ∙ sym (s .state)) (s .cpu ∙ sym (s .state)) (s .slice ∙ sym (s .state)) (s .mask ∙ sym (s .state))
 
--- ---- N and the lengths
+-- ---- N, the full slice and the lengths
 
 pub size-good : (n : ℕ) → sizeFits n ≡ true → (1 ≤ n) × (n ≤ cpuPlaces)
 unfolding sizeFits
@@ -109,6 +109,12 @@ size-good n h = let t = both (ltb 0 n) (leb n cpuPlaces) h in (ltb-true 0 n (t .
 pub good-size : (n : ℕ) → 1 ≤ n → n ≤ cpuPlaces → sizeFits n ≡ true
 unfolding sizeFits
 good-size n a b = and-both (ltb 0 n) (leb n cpuPlaces) (lt-ltb 0 n a) (le-leb n cpuPlaces b)
+
+pub slice-good : (full : ℕ) → sliceFits full ≡ true → (1 ≤ full) × (full ≤ longestSlice)
+slice-good full h = let t = both (leb 1 full) (leb full longestSlice) h in (leb-true 1 full (t .0), leb-true full longestSlice (t .1))
+
+pub good-slice : (full : ℕ) → 1 ≤ full → full ≤ longestSlice → sliceFits full ≡ true
+good-slice full a b = and-both (leb 1 full) (leb full longestSlice) (le-leb 1 full a) (le-leb full longestSlice b)
 
 pub shaped-shape : (m : Machine) → shaped m ≡ true → Shape m
 shaped-shape m h =
@@ -120,10 +126,14 @@ shaped-shape m h =
     let f = both _ _ (e .0) in
     let g = both _ _ (f .0) in
     let i = both _ _ (g .0) in
-    let j = size-good (m .n) (i .0) in
+    let j = both _ _ (i .0) in
+    let k = size-good (m .n) (j .0) in
+    let l = slice-good (m .full) (j .1) in
     record {
-      some-cpu = j .0;
-      cpus = j .1;
+      some-cpu = k .0;
+      cpus = k .1;
+      some-tick = l .0;
+      ticks = l .1;
       state = eqb-true (length (m .state)) taskPlaces (i .1);
       policy = eqb-true (length (m .policy)) taskPlaces (g .1);
       prio = eqb-true (length (m .prio)) taskPlaces (f .1);
@@ -136,8 +146,9 @@ shaped-shape m h =
 
 pub shape-shaped : (m : Machine) → Shape m → shaped m ≡ true
 shape-shaped m s =
-    and-both _ _ (and-both _ _ (and-both _ _ (and-both _ _ (and-both _ _ (and-both _ _ (and-both _ _ (and-both _ _
-    (good-size (m .n) (s .some-cpu) (s .cpus)) (eq-eqb (length (m .state)) taskPlaces (s .state)))
+    and-both _ _ (and-both _ _ (and-both _ _ (and-both _ _ (and-both _ _ (and-both _ _ (and-both _ _ (and-both _ _ (and-both _ _
+    (good-size (m .n) (s .some-cpu) (s .cpus)) (good-slice (m .full) (s .some-tick) (s .ticks)))
+    (eq-eqb (length (m .state)) taskPlaces (s .state)))
     (eq-eqb (length (m .policy)) taskPlaces (s .policy))) (eq-eqb (length (m .prio)) taskPlaces (s .prio)))
     (eq-eqb (length (m .cpu)) taskPlaces (s .cpu))) (eq-eqb (length (m .slice)) taskPlaces (s .slice)))
     (eq-eqb (length (m .mask)) taskPlaces (s .mask))) (eq-eqb (length (m .rows)) (m .n) (s .rows))) (eq-eqb (length (m .flags)) (m .n) (s .flags))
@@ -157,8 +168,8 @@ zeros-free τ s h =
     let mask : τ .mask ≡ 0 = eqb-true (τ .mask) 0 (a .1) in
     λ i. record { state = s i; policy = policy i; prio = prio i; cpu = cpu i; slice = slice i; mask = mask i }
 
-fits-fit : (n : ℕ) (τ : Task) → fits n τ ≡ true → Fit n τ
-fits-fit n τ h =
+fits-fit : (n full : ℕ) (τ : Task) → fits n full τ ≡ true → Fit n full τ
+fits-fit n full τ h =
     let a = both _ _ h in
     let b = both _ _ (a .0) in
     let c = both _ _ (b .0) in
@@ -174,49 +185,49 @@ fits-fit n τ h =
       prio-high = leb-true (τ .prio) highestPriority (e .1);
       cpu = ltb-true (τ .cpu) n (d .1);
       slice-low = leb-true 1 (τ .slice) (c .1);
-      slice-high = leb-true (τ .slice) fullSlice (b .1);
+      slice-high = leb-true (τ .slice) full (b .1);
       mask-some = k .0;
       mask-fits = k .1;
     }
 
-fit-fits : (n : ℕ) (τ : Task) → Fit n τ → fits n τ ≡ true
-fit-fits n τ f =
+fit-fits : (n full : ℕ) (τ : Task) → Fit n full τ → fits n full τ ≡ true
+fit-fits n full τ f =
     and-both _ _ (and-both _ _ (and-both _ _ (and-both _ _ (and-both _ _ (and-both _ _ (and-both _ _
     (le-leb fifo (τ .policy) (f .policy-low)) (le-leb (τ .policy) rr (f .policy-high))) (le-leb lowestPriority (τ .prio) (f .prio-low)))
     (le-leb (τ .prio) highestPriority (f .prio-high))) (lt-ltb (τ .cpu) n (f .cpu))) (le-leb 1 (τ .slice) (f .slice-low)))
-    (le-leb (τ .slice) fullSlice (f .slice-high))) (good-mask (τ .mask) n (f .mask-some) (f .mask-fits))
+    (le-leb (τ .slice) full (f .slice-high))) (good-mask (τ .mask) n (f .mask-some) (f .mask-fits))
 
 -- what the test says of a task besides W1 and W2: a runnable one stands once in the row of its CPU, which is allowed
 abbrev Placed : Machine → ℕ → Task → Type 0
 Placed m t τ = τ .state ≡ runnable → (occ t (row m (τ .cpu)) ≡ 1) × (allows m (τ .mask) (τ .cpu) ≡ true)
 
-task-sound : (m : Machine) (t : ℕ) (τ : Task) → soundTask m t τ ≡ true → Sound (m .n) τ × Placed m t τ
+task-sound : (m : Machine) (t : ℕ) (τ : Task) → soundTask m t τ ≡ true → Sound (m .n) (m .full) τ × Placed m t τ
 task-sound m t τ h = go (eqb (τ .state) free) refl h
   where
     place : Bool
     place = eqb (τ .state) runnable && eqb (occ t (row m (τ .cpu))) 1 && allows m (τ .mask) (τ .cpu)
 
-    state : (b : Bool) → eqb (τ .state) asleep ≡ b → fits (m .n) τ ≡ true → (b || place) ≡ true → Sound (m .n) τ × Placed m t τ
-    state true e f p = (is-asleep (eqb-true (τ .state) asleep e) (fits-fit (m .n) τ f), λ r. absurd (omega (arith, eqb-true (τ .state) asleep e)))
+    state : (b : Bool) → eqb (τ .state) asleep ≡ b → fits (m .n) (m .full) τ ≡ true → (b || place) ≡ true → Sound (m .n) (m .full) τ × Placed m t τ
+    state true e f p = (is-asleep (eqb-true (τ .state) asleep e) (fits-fit (m .n) (m .full) τ f), λ r. absurd (omega (arith, eqb-true (τ .state) asleep e)))
     state false e f p =
         let a = both (eqb (τ .state) runnable && eqb (occ t (row m (τ .cpu))) 1) (allows m (τ .mask) (τ .cpu)) p in
         let b = both (eqb (τ .state) runnable) (eqb (occ t (row m (τ .cpu))) 1) (a .0) in (
-          is-runnable (eqb-true (τ .state) runnable (b .0)) (fits-fit (m .n) τ f),
+          is-runnable (eqb-true (τ .state) runnable (b .0)) (fits-fit (m .n) (m .full) τ f),
           λ r. (eqb-true (occ t (row m (τ .cpu))) 1 (b .1), a .1),
         )
 
-    go : (b : Bool) → eqb (τ .state) free ≡ b → cond b (zeros τ) (fits (m .n) τ && (eqb (τ .state) asleep || place)) ≡ true → Sound (m .n) τ × Placed m t τ
+    go : (b : Bool) → eqb (τ .state) free ≡ b → cond b (zeros τ) (fits (m .n) (m .full) τ && (eqb (τ .state) asleep || place)) ≡ true → Sound (m .n) (m .full) τ × Placed m t τ
     go true e h = (is-free (zeros-free τ (eqb-true (τ .state) free e) h), λ r. absurd (omega (arith, eqb-true (τ .state) free e)))
-    go false e h = let a = both (fits (m .n) τ) (eqb (τ .state) asleep || place) h in state (eqb (τ .state) asleep) refl (a .0) (a .1)
+    go false e h = let a = both (fits (m .n) (m .full) τ) (eqb (τ .state) asleep || place) h in state (eqb (τ .state) asleep) refl (a .0) (a .1)
 
-sound-task : (m : Machine) (t : ℕ) (τ : Task) → Sound (m .n) τ → Placed m t τ → soundTask m t τ ≡ true
+sound-task : (m : Machine) (t : ℕ) (τ : Task) → Sound (m .n) (m .full) τ → Placed m t τ → soundTask m t τ ≡ true
 sound-task m t τ (is-free e) p = subst (λ (σ : Task). soundTask m t σ ≡ true) (sym e) refl
 sound-task m t τ (is-asleep s f) p =
-    rw (ne-eqb (τ .state) free (λ z. omega arith), fit-fits (m .n) τ f, eq-eqb (τ .state) asleep s)
+    rw (ne-eqb (τ .state) free (λ z. omega arith), fit-fits (m .n) (m .full) τ f, eq-eqb (τ .state) asleep s)
 sound-task m t τ (is-runnable s f) p =
     rw (
       ne-eqb (τ .state) free (λ z. omega arith),
-      fit-fits (m .n) τ f,
+      fit-fits (m .n) (m .full) τ f,
       ne-eqb (τ .state) asleep (λ z. omega arith),
       eq-eqb (τ .state) runnable s,
       eq-eqb (occ t (row m (τ .cpu))) 1 (p s .0),
@@ -267,7 +278,7 @@ test-well-formed m h t =
     front : (each (soundTask m) 0 (tasks m) ≡ true) × (each (soundRow m) 0 (m .rows) ≡ true)
     front = both _ _ (tests .0)
 
-    task : (u : ℕ) → u < taskPlaces → Sound (m .n) (taskOf m u) × Placed m u (taskOf m u)
+    task : (u : ℕ) → u < taskPlaces → Sound (m .n) (m .full) (taskOf m u) × Placed m u (taskOf m u)
     task u l =
         task-sound m u (taskOf m u)
         (subst (λ (τ : Task). soundTask m u τ ≡ true) (tasks-at m s u l)

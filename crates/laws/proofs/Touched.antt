@@ -348,7 +348,7 @@ touches-both t a b c x y =
 -- its columns
 module _ (t : ℕ) (m : Machine) (a b c d e f : List ℕ) where
   abbrev other : Machine
-  other = record { n = m .n; state = a; policy = b; prio = c; cpu = d; slice = e; mask = f; rows = m .rows; flags = m .flags }
+  other = record { n = m .n; full = m .full; state = a; policy = b; prio = c; cpu = d; slice = e; mask = f; rows = m .rows; flags = m .flags }
 
   touches-columns : ((u : ℕ) → u ≢ t → taskOf other u ≡ taskOf m u) → Touches t m other
   touches-columns same =

@@ -1,15 +1,17 @@
-// The ten tables that a caller lends, and their lengths.
+// The ten tables that a caller lends, their lengths, and the full slice.
 ghost use mathlib.Core.Path.{_≡_};
 ghost use Rattle.rules.specs.Tables.{lengthsFit};
 ghost use Rattle.lenttables.specs.Lent.{oldTables, sizesFit};
 use cpupri::record::CPUS;
 use rules::log::LOG;
+use rules::task::LONGEST_SLICE;
 use runqueue::row::PLACES;
 
-// Whether N is 1 to 64 and these are the lengths of the ten tables: the columns 512, the rows N times 512,
-// counts and flags N, the log 63 entries of four numbers.
+// Whether N is 1 to 64, a full slice 1 to 1,000 ticks, and these are the lengths of the ten tables: the columns 512,
+// the rows N times 512, counts and flags N, the log 63 entries of four numbers.
 pub fn sizes_fit(
     n: usize,
+    full: u32,
     state: usize,
     policy: usize,
     prio: usize,
@@ -21,12 +23,14 @@ pub fn sizes_fit(
     flags: usize,
     log: usize,
 ) -> bool
-    ensures { λ b. ⌜ b ≡ sizesFit n state policy prio cpu slice mask rows counts flags log ⌝ }
+    ensures { λ b. ⌜ b ≡ sizesFit n full state policy prio cpu slice mask rows counts flags log ⌝ }
 {
     if !((0 < n) & (n <= CPUS)) {
         return false;
     }
-    (state == PLACES)
+    (1 <= full)
+        & (full <= LONGEST_SLICE)
+        & (state == PLACES)
         & (policy == PLACES)
         & (prio == PLACES)
         & (cpu == PLACES)
@@ -41,6 +45,7 @@ pub fn sizes_fit(
 // The same of tables that are at hand.
 pub fn lengths_fit(
     n: usize,
+    full: u32,
     state: &[u8],
     policy: &[u8],
     prio: &[u8],
@@ -52,10 +57,11 @@ pub fn lengths_fit(
     flags: &[u8],
     log: &[u16],
 ) -> bool
-    ensures { λ b. ⌜ b ≡ lengthsFit n (oldTables state policy prio cpu slice mask rows counts flags log) ⌝ }
+    ensures { λ b. ⌜ b ≡ lengthsFit n (oldTables full state policy prio cpu slice mask rows counts flags log) ⌝ }
 {
     sizes_fit(
         n,
+        full,
         state.len(),
         policy.len(),
         prio.len(),

@@ -19,9 +19,9 @@ use rules::task;
 use runqueue::row::PLACES;
 
 // Kind 1: a new task, asleep on the lowest-numbered allowed CPU, with a full slice.
-pub fn add(n: usize, named: Task, who: u32, a: u32, b: u32, k: u64) -> Decision
+pub fn add(n: usize, full: u16, named: Task, who: u32, a: u32, b: u32, k: u64) -> Decision
     requires { ⌜ n ≤ cpuPlaces ⌝ }
-    ensures { λ r. ⌜ ((m : Machine) (kind : ℕ) → n ≡ m .n → Named m who named → DecidedAs addKind m (event kind who a b k) r) ⌝ }
+    ensures { λ r. ⌜ ((m : Machine) (kind : ℕ) → n ≡ m .n → full ≡ m .full → Named m who named → DecidedAs addKind m (event kind who a b k) r) ⌝ }
 {
     let known = is_policy(a);
     let in_range = is_priority(b);
@@ -43,11 +43,11 @@ pub fn add(n: usize, named: Task, who: u32, a: u32, b: u32, k: u64) -> Decision
         return Decision::Refused(answer::BAD_MASK);
     }
     let new = Task {
-        state: task::ASLEEP,
+        state: task::ASLEEP, // until it wakes
         policy: a as u8,
         prio: b as u8,
         cpu: lowest as u8,
-        slice: task::FULL_SLICE,
+        slice: full,
         mask: k,
     };
     Decision::Place(Plan::rewrite(who as u16, new))
@@ -87,8 +87,14 @@ pub fn wake(named: Task, who: u32) -> Decision
         return Decision::Refused(answer::WRONG_STATE); // free, or awake already
     }
     let target = wake_cpu(named.cpu as usize, named.mask);
-    let mut becomes = named;
-    becomes.state = task::RUNNABLE;
+    let becomes = Task {
+        state: task::RUNNABLE,
+        policy: named.policy,
+        prio: named.prio,
+        cpu: named.cpu,
+        slice: named.slice,
+        mask: named.mask,
+    };
     Decision::Place(Plan::enter(who as u16, becomes, target))
 }
 
@@ -102,8 +108,14 @@ pub fn sleep(named: Task, who: u32) -> Decision
     if named.state != task::RUNNABLE {
         return Decision::Refused(answer::WRONG_STATE);
     }
-    let mut becomes = named;
-    becomes.state = task::ASLEEP;
+    let becomes = Task {
+        state: task::ASLEEP,
+        policy: named.policy,
+        prio: named.prio,
+        cpu: named.cpu,
+        slice: named.slice,
+        mask: named.mask,
+    };
     Decision::Place(Plan::leave(who as u16, named.cpu as usize, becomes))
 }
 

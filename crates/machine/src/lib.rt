@@ -16,10 +16,11 @@ pub struct Outcome {
     pub record: Record,
 }
 
-// One event on any tables. Refused with the first number that applies: 1 (N or a table's length), 2 (the
-// tables or the record are not well-formed), 3 to 9 (the event).
+// One event on any tables, with a full slice of so many ticks. Refused with the first number that applies: 1 (N, the
+// full slice or a table's length), 2 (the tables or the record are not well-formed), 3 to 9 (the event).
 pub fn event(
     n: usize,
+    full: u32,
     state: &mut [u8],
     policy: &mut [u8],
     prio: &mut [u8],
@@ -37,8 +38,8 @@ pub fn event(
     k: u64,
     record: Record,
 ) -> Outcome
-    ensures { λ o. let s = oldTables state policy prio cpu slice mask rows counts flags log in
-        let t = newTables state policy prio cpu slice mask rows counts flags log in
+    ensures { λ o. let s = oldTables full state policy prio cpu slice mask rows counts flags log in
+        let t = newTables full state policy prio cpu slice mask rows counts flags log in
         let e = numbers kind who a b k in
         ⌜ result (o .answer) (o .moves) (o .«record») t ≡ handled n «record» s e ⌝
         ∗ ⌜ (o .answer ≡ 0 → LentDemand3 n (o .moves) (effect e (machineOf n s)) t) ⌝
@@ -46,6 +47,7 @@ pub fn event(
 {
     let number = checker::check::check(
         n,
+        full,
         state,
         policy,
         prio,
@@ -86,6 +88,7 @@ pub fn event(
         &mut tallies,
         &mut words,
         &mut levels,
+        full as u16,
         kind,
         who,
         a,

@@ -98,7 +98,7 @@ below-next c P old new d h = go (eqb d c) refl
     go false e = let n = eqb-false d c e in old d (lt-of-le-ne (le-of-suc-le-suc h) n)
 
 -- the finder's answer is the rules'
-pub found-is : (m : Machine) → WellFormed m → (u : ℕ) → Fit (m .n) (taskOf m u)
+pub found-is : (m : Machine) → WellFormed m → (u : ℕ) → Fit (m .n) (m .full) (taskOf m u)
     → ltb (lowestLevel (masksOf (levels m)) (levelOf (prioOf m u)) (taskOf m u .mask)) (levelOf (prioOf m u)) ≡ movable m u
 found-is m w u fit = go (ltb (lowestLevel (masksOf (levels m)) (levelOf (prioOf m u)) (taskOf m u .mask)) (levelOf (prioOf m u))) refl
   where
@@ -180,7 +180,7 @@ module _ {m : Machine} {ps ms ks flat masks : List ℕ} (k : Looking m ps ms ks 
       runs : taskOf m u .state ≡ runnable
       runs = in-row m u c (k .well) i .0
 
-      fit : Fit (m .n) (taskOf m u)
+      fit : Fit (m .n) (m .full) (taskOf m u)
       fit = runnable-fit m u (k .well) runs
 
       a-task : u ≢ nothing

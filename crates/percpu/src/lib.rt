@@ -17,8 +17,8 @@ const WORK: u32 = 1;
 
 // Kind 7: an RR task has a tick less; at 0 its slice is full again and it goes behind its equals.
 // Nothing happens to a FIFO task or to an empty row.
-pub fn tick(n: usize, at: usize, runner: Task, who: u32) -> Decision
-    ensures { λ r. ⌜ ((m : Machine) (kind a b k : ℕ) → n ≡ m .n → Runs m who at runner → DecidedAs tickKind m (event kind who a b k) r) ⌝ }
+pub fn tick(n: usize, full: u16, at: usize, runner: Task, who: u32) -> Decision
+    ensures { λ r. ⌜ ((m : Machine) (kind a b k : ℕ) → n ≡ m .n → full ≡ m .full → Runs m who at runner → DecidedAs tickKind m (event kind who a b k) r) ⌝ }
 {
     let cpu = who as usize;
     if n <= cpu {
@@ -31,13 +31,25 @@ pub fn tick(n: usize, at: usize, runner: Task, who: u32) -> Decision
         return Decision::Nothing;
     }
     if 1 < runner.slice {
-        let mut less = runner;
-        less.slice = runner.slice - 1;
+        let less = Task {
+            state: runner.state,
+            policy: runner.policy,
+            prio: runner.prio,
+            cpu: runner.cpu,
+            slice: runner.slice - 1,
+            mask: runner.mask,
+        };
         return Decision::Place(Plan::rewrite(at as u16, less));
     }
-    let mut full = runner;
-    full.slice = task::FULL_SLICE;
-    Decision::Place(Plan::shift(at as u16, cpu, full, cpu))
+    let again = Task {
+        state: runner.state,
+        policy: runner.policy,
+        prio: runner.prio,
+        cpu: runner.cpu,
+        slice: full,
+        mask: runner.mask,
+    };
+    Decision::Place(Plan::shift(at as u16, cpu, again, cpu))
 }
 
 // Kind 8: the first task goes behind its equals. Its slice is kept.

@@ -51,11 +51,11 @@ apart-order t m a h =
       falling = a .falling;
     }
   where
-    fits : (c u : ℕ) → In u (row m c) → Fit (m .n) (taskOf m u)
+    fits : (c u : ℕ) → In u (row m c) → Fit (m .n) (m .full) (taskOf m u)
     fits c u i =
         let n : u ≢ t = in-other t m a c u i in
         let s = standing-means (taskOf m u) c (omega (arith, a .rows u c n)) .0 in
-        fit-of (m .n) (taskOf m u) (a .tasks u (in-place t m a c u i) n) (λ z. omega arith)
+        fit-of (m .n) (m .full) (taskOf m u) (a .tasks u (in-place t m a c u i) n) (λ z. omega arith)
 
 -- ---- what the tables then hold
 

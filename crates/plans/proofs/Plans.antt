@@ -11,7 +11,7 @@ use borrow.Author.Tests.{eq-eqb, ne-eqb, le-leb, lt-leb}
 use Rattle.bits.specs.Bit.{bit, first, lowest}
 use Rattle.bits.proofs.Search.{lowest-is, first-before}
 use Rattle.rules.specs.Lists.{In}
-use Rattle.rules.specs.Machine.{Machine, Task, taskOf, row, enqueueAt, enqueue, dequeue, requeue, lowestAllowed, free, asleep, runnable, rr, fullSlice, cpuPlaces, taskPlaces, highestPriority}
+use Rattle.rules.specs.Machine.{Machine, Task, taskOf, row, enqueueAt, enqueue, dequeue, requeue, lowestAllowed, free, asleep, runnable, rr, cpuPlaces, taskPlaces, highestPriority}
 use Rattle.rules.specs.WellFormed.{WellFormed, Fit}
 use Rattle.rules.specs.Events.{wakeCpu, woken, slept, reprioritised, reaffined, tickedTask, ticked, yielded, toFirst}
 use Rattle.laws.proofs.Lists.{in-here}
@@ -47,8 +47,8 @@ module _ {m : Machine} {t : ℕ} {τ : Columns} (l : Named m t τ) where
   not-in s n = ne-eqb (taskOf m t .state) s (state-other n)
 
   module _ (ht : t < taskPlaces) where
-    pub used-fit : τ .state ≢ free → Fit (m .n) (taskOf m t)
-    used-fit n = fit-of (m .n) (taskOf m t) (l .formed .tasks t ht) (state-other n)
+    pub used-fit : τ .state ≢ free → Fit (m .n) (m .full) (taskOf m t)
+    used-fit n = fit-of (m .n) (m .full) (taskOf m t) (l .formed .tasks t ht) (state-other n)
 
     pub idle : (σ : Task) → taskOf m t .state ≢ runnable → Doable m (rewrite t σ)
     idle σ n = record { task = ht; leaves = tt; stays = inl n; enters = tt }
@@ -79,7 +79,7 @@ module _ {m : Machine} {t : ℕ} {τ : Columns} (l : Named m t τ) where
 
     -- kind 3
     module _ (s : τ .state ≡ asleep) where
-      asleep-fit : Fit (m .n) (taskOf m t)
+      asleep-fit : Fit (m .n) (m .full) (taskOf m t)
       asleep-fit = used-fit (λ z. omega arith)
 
       pub wake-small : wakeCpu m t < m .n
@@ -227,12 +227,12 @@ module _ {m : Machine} {c t : ℕ} {τ : Columns} (l : Runs m c t τ) where
             doable = kept named some (withSlice (taskOf m t .slice - 1) (taskOf m t)) refl;
           }
 
-      pub ticks-again : τ .slice ≤ 1 → Carries (ticked c m) m (shift t c (withSlice fullSlice (taskOf m t)) c)
+      pub ticks-again : τ .slice ≤ 1 → Carries (ticked c m) m (shift t c (withSlice (m .full) (taskOf m t)) c)
       ticks-again h =
           let z : taskOf m t .slice - 1 ≡ 0 = omega (arith, slice-is) in
           record {
-            effect = ticked-is ∙ rw (is-rr, eq-eqb (taskOf m t .slice - 1) 0 z) (ap (enqueue t c) (sym (write-slice t fullSlice (dequeue t c m))));
-            doable = behind (withSlice fullSlice (taskOf m t)) refl;
+            effect = ticked-is ∙ rw (is-rr, eq-eqb (taskOf m t .slice - 1) 0 z) (ap (enqueue t c) (sym (write-slice t (m .full) (dequeue t c m))));
+            doable = behind (withSlice (m .full) (taskOf m t)) refl;
           }
 
     pub yields : Carries (yielded c m) m (shift t c (taskOf m t) c)

@@ -3,7 +3,8 @@ ghost use mathlib.Core.Path.{_≡_};
 ghost use Rattle.rules.specs.Plan.{rewrite as rewriting, enter as entering, leave as leaving, shift as shifting, reorder as reordering};
 ghost use Rattle.plans.specs.Decided.{asTask, asPlan};
 
-// A task place: its entry in each of the six columns.
+// A task place: its entry in each of the six columns. A changed one is written out field by field: a copy with one field set goes
+// through memory, byte by byte in and by words out.
 pub struct Task {
     pub state: u8,
     pub policy: u8,

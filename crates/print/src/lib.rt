@@ -16,6 +16,13 @@ pub fn answer(x: u8) {
     text(b"\n");
 }
 
+// The answer to a maker, and the full slice that it handed back.
+pub fn made(answer: u8, slice: u32) {
+    number(b": answer ", answer as u64);
+    number(b", slice ", slice as u64);
+    text(b"\n");
+}
+
 // The answer to an event and the number of moves.
 pub fn answered(answer: u8, moves: u32) {
     number(b": answer ", answer as u64);

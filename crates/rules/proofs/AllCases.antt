@@ -15,7 +15,8 @@ use Rattle.rules.specs.WellFormed.{gathered, falls}
 use Rattle.rules.specs.Migration.{Move, next, settle}
 use Rattle.rules.specs.Outcome.{outcome, logNumbers}
 use Rattle.rules.specs.Tables.{Tables, lent, rowsOf, padded, flatOf, storedRow, storedRows}
-use Rattle.rules.specs.Entry.{checked, eventAnswer, made, handled}
+use Rattle.rules.specs.Machine.{defaultSlice}
+use Rattle.rules.specs.Entry.{checked, eventAnswer, made, handled, handedBack}
 use Rattle.rules.specs.Cases.{Case, cases, log5, used, seen, played}
 use Rattle.rules.specs.Sentences.{sentences}
 use Rattle.rules.specs.Demand3.{mostMoves, movers, origins, receivers, displacements}
@@ -47,6 +48,10 @@ all-found = refl
 pub bound-reached : mostMoves 3 ≡ 2
 bound-reached = refl
 
+-- L7: "handed back by it (25 by a second maker told none, 0 on a refusal)"
+pub all-handed : handedBack 0 1000 ∷ handedBack 0 defaultSlice ∷ handedBack 1 1000 ∷ handedBack 1 defaultSlice ∷ [] ≡ 1000 ∷ 25 ∷ 0 ∷ 0 ∷ []
+all-handed = refl
+
 -- ---- what demand 3 says of the lent log: K5's two moves and their numbers
 
 abbrev moves5 : List Move
@@ -54,7 +59,7 @@ moves5 = record { task = 0; origin = 0; target = 1; displaced = 22 } ∷ record 
 
 -- tables of which only the log counts
 abbrev logOnly : List ℕ → Tables
-logOnly log = lent [] [] [] [] [] [] [] [] [] log
+logOnly log = lent 0 [] [] [] [] [] [] [] [] [] log
 
 -- these are entries of the log
 pub entries-told : Entries (logOnly log5) moves5

@@ -1,14 +1,15 @@
--- The marked examples K1 to K12: for each the events before, the last event, and all that is then seen. Tasks are FIFO unless said.
+-- The marked examples K1 to K12: for each the events before, the last event, and all that is then seen. Tasks are FIFO unless said, and a full slice
+-- is 100 ticks, document 01's number, which its examples name.
 -- Assumes nothing.
-use mathlib.Core.Bool.{cond}
+use mathlib.Core.Bool.{cond, _&&_}
 use mathlib.Core.List.{List, [], _∷_, _++_, map}
 use Prim.Native.Nat.{ℕ, suc, _+_, _-_, _^_}
 use lib.Dec.{eqb}
 use lib.ListN.{replicate}
 use Rattle.cpupri.specs.Found.{sizeFits}
 use Rattle.rules.specs.Lists.{below}
-use Rattle.rules.specs.Machine.{Machine, Task, row, flag, level, fresh, runnable, asleep, fifo, rr, fullSlice}
-use Rattle.rules.specs.WellFormed.{tasks}
+use Rattle.rules.specs.Machine.{Machine, Task, row, flag, level, fresh, runnable, asleep, fifo, rr}
+use Rattle.rules.specs.WellFormed.{sliceFits, tasks}
 use Rattle.rules.specs.Events.{Event, event}
 use Rattle.rules.specs.Refusals.{badSize}
 use Rattle.rules.specs.Outcome.{Outcome, outcome, refused, logNumbers}
@@ -107,6 +108,10 @@ ordinaryCpu = shared 1 []
 abbrev pub task : ℕ → ℕ → ℕ → ℕ → ℕ → ℕ → ℕ → Used
 task t s a p c l k = record { number = t; task = record { state = s; policy = a; prio = p; cpu = c; slice = l; mask = k } }
 
+-- document 01's full slice
+abbrev pub fullSlice : ℕ
+fullSlice = 100
+
 -- a FIFO task with a full slice, in its row or asleep: its number, priority, CPU and mask
 abbrev pub runs : ℕ → ℕ → ℕ → ℕ → Used
 runs t p c k = task t runnable fifo p c fullSlice k
@@ -126,21 +131,28 @@ refuses a cs ts = record { answer = a; moves = 0; log = []; cpus = cs; tasks = t
 
 pub record Case : Type 0 where
   pub n : ℕ
+  pub full : ℕ
   pub before : List Event
   pub last : Event
   pub expected : Seen
 
+-- with another full slice, and with document 01's
+abbrev pub sliced : ℕ → ℕ → List Event → Event → Seen → Case
+sliced full n b l x = record { n = n; full = full; before = b; last = l; expected = x }
+
 abbrev pub case : ℕ → List Event → Event → Seen → Case
-case n b l x = record { n = n; before = b; last = l; expected = x }
+case n b l x = sliced fullSlice n b l x
 
 -- a fresh machine after some events
 unfoldable pub played : List Event → Machine → Machine
 played [] m = m
 played (e ∷ es) m = played es (outcome m e .machine)
 
--- the last event; N itself is checked first
+-- the last event; N and the full slice are checked first
 abbrev pub last : Case → Outcome
-last k = cond (sizeFits (k .n)) (outcome (played (k .before) (fresh (k .n))) (k .last)) (refused badSize (fresh (k .n)))
+last k =
+    let m : Machine = fresh (k .n) (k .full) in
+    cond (sizeFits (k .n) && sliceFits (k .full)) (outcome (played (k .before) m) (k .last)) (refused badSize m)
 
 abbrev pub seen : Case → Seen
 seen k = look (last k)

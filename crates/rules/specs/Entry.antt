@@ -65,11 +65,16 @@ eventAnswer n r s e = firstFailing (allChecks n r s e)
 -- ---- make a fresh machine: refuses only with 1, and old contents do not matter
 
 abbrev pub madeBy : ℕ → ℕ → Record → Tables → Result
-madeBy zero n r s = written 0 (fresh n) (replicate logPlaces nothing)
+madeBy zero n r s = written 0 (fresh n (s .full)) (replicate logPlaces nothing)
 madeBy (suc a) n r s = kept (suc a) r s
 
 unfoldable pub made : ℕ → Record → Tables → Result
 made n r s = madeBy (firstFailing (sizeCheck n s ∷ [])) n r s
+
+-- what the maker says of the full slice, by its answer: the number that it was given, or 0 on a refusal
+abbrev pub handedBack : ℕ → ℕ → ℕ
+handedBack zero full = full
+handedBack (suc a) full = 0
 
 -- ---- event
 

@@ -6,7 +6,7 @@ use mathlib.Core.Option.{Option, none, some}
 use Prim.Native.Nat.{ℕ, zero, suc, _-_}
 use lib.Dec.{eqb, ltb}
 use lib.ListN.{getElem?}
-use Rattle.rules.specs.Machine.{Machine, Task, Column, taskOf, freeTask, row, asleep, runnable, rr, fullSlice}
+use Rattle.rules.specs.Machine.{Machine, Task, Column, taskOf, freeTask, row, asleep, runnable, rr}
 use Rattle.rules.specs.Machine.{store, write, withFlag, enqueueAt, enqueue, dequeue, requeue, allows, lowestAllowed}
 
 -- five numbers; those that a kind does not use are ignored
@@ -41,7 +41,7 @@ added m e =
       policy = e .a;
       prio = e .b;
       cpu = lowestAllowed m (e .mask);
-      slice = fullSlice;
+      slice = m .full;
       mask = e .mask;
     }
 
@@ -76,7 +76,7 @@ reaffined t k m =
 abbrev pub tickedTask : ℕ → ℕ → Machine → Machine
 tickedTask t c m =
     cond (eqb (taskOf m t .policy) rr)
-    (cond (eqb (taskOf m t .slice - 1) 0) (store Column.slice t fullSlice (requeue t c m)) (store Column.slice t (taskOf m t .slice - 1) m))
+    (cond (eqb (taskOf m t .slice - 1) 0) (store Column.slice t (m .full) (requeue t c m)) (store Column.slice t (taskOf m t .slice - 1) m))
     m
 
 -- what is done to the first task of a row; nothing to an empty one

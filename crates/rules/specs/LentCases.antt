@@ -43,33 +43,36 @@ answers a f n r s = record { call = f; n = n; cpupri = r; tables = s; expected =
 -- ---- tables
 
 abbrev pub inColumn : Column → (List ℕ → List ℕ) → Tables → Tables
-inColumn Column.state f s = lent (f (s .state)) (s .policy) (s .prio) (s .cpu) (s .slice) (s .mask) (s .rows) (s .counts) (s .flags) (s .log)
-inColumn Column.policy f s = lent (s .state) (f (s .policy)) (s .prio) (s .cpu) (s .slice) (s .mask) (s .rows) (s .counts) (s .flags) (s .log)
-inColumn Column.prio f s = lent (s .state) (s .policy) (f (s .prio)) (s .cpu) (s .slice) (s .mask) (s .rows) (s .counts) (s .flags) (s .log)
-inColumn Column.cpu f s = lent (s .state) (s .policy) (s .prio) (f (s .cpu)) (s .slice) (s .mask) (s .rows) (s .counts) (s .flags) (s .log)
-inColumn Column.slice f s = lent (s .state) (s .policy) (s .prio) (s .cpu) (f (s .slice)) (s .mask) (s .rows) (s .counts) (s .flags) (s .log)
-inColumn Column.mask f s = lent (s .state) (s .policy) (s .prio) (s .cpu) (s .slice) (f (s .mask)) (s .rows) (s .counts) (s .flags) (s .log)
+inColumn Column.state f s = lent (s .full) (f (s .state)) (s .policy) (s .prio) (s .cpu) (s .slice) (s .mask) (s .rows) (s .counts) (s .flags) (s .log)
+inColumn Column.policy f s = lent (s .full) (s .state) (f (s .policy)) (s .prio) (s .cpu) (s .slice) (s .mask) (s .rows) (s .counts) (s .flags) (s .log)
+inColumn Column.prio f s = lent (s .full) (s .state) (s .policy) (f (s .prio)) (s .cpu) (s .slice) (s .mask) (s .rows) (s .counts) (s .flags) (s .log)
+inColumn Column.cpu f s = lent (s .full) (s .state) (s .policy) (s .prio) (f (s .cpu)) (s .slice) (s .mask) (s .rows) (s .counts) (s .flags) (s .log)
+inColumn Column.slice f s = lent (s .full) (s .state) (s .policy) (s .prio) (s .cpu) (f (s .slice)) (s .mask) (s .rows) (s .counts) (s .flags) (s .log)
+inColumn Column.mask f s = lent (s .full) (s .state) (s .policy) (s .prio) (s .cpu) (s .slice) (f (s .mask)) (s .rows) (s .counts) (s .flags) (s .log)
 
 abbrev pub withEntry : Column → ℕ → ℕ → Tables → Tables
 withEntry k t v s = inColumn k (λ xs. set xs t v) s
 
+abbrev pub withFull : ℕ → Tables → Tables
+withFull full s = lent full (s .state) (s .policy) (s .prio) (s .cpu) (s .slice) (s .mask) (s .rows) (s .counts) (s .flags) (s .log)
+
 abbrev pub withRows : List ℕ → List ℕ → Tables → Tables
-withRows rs ns s = lent (s .state) (s .policy) (s .prio) (s .cpu) (s .slice) (s .mask) rs ns (s .flags) (s .log)
+withRows rs ns s = lent (s .full) (s .state) (s .policy) (s .prio) (s .cpu) (s .slice) (s .mask) rs ns (s .flags) (s .log)
 
 abbrev pub withFlags : List ℕ → Tables → Tables
-withFlags fs s = lent (s .state) (s .policy) (s .prio) (s .cpu) (s .slice) (s .mask) (s .rows) (s .counts) fs (s .log)
+withFlags fs s = lent (s .full) (s .state) (s .policy) (s .prio) (s .cpu) (s .slice) (s .mask) (s .rows) (s .counts) fs (s .log)
 
 abbrev pub withLog : List ℕ → Tables → Tables
-withLog log s = lent (s .state) (s .policy) (s .prio) (s .cpu) (s .slice) (s .mask) (s .rows) (s .counts) (s .flags) log
+withLog log s = lent (s .full) (s .state) (s .policy) (s .prio) (s .cpu) (s .slice) (s .mask) (s .rows) (s .counts) (s .flags) log
 
 -- ---- a well-formed machine of two CPUs
 -- Task 0 runs on CPU 0 and task 1, its equal, waits there; CPU 1 has ordinary work, and task 1 could use it: "A machine need not be settled (no
 -- task movable) to be well-formed". Task 2 sleeps on CPU 1, which its mask does not allow: "A sleeper's CPU need not be allowed." The columns
--- hold the bounds of W2: policies 1 and 2, priorities 1 and 99, slices 1 and 100.
+-- hold the bounds of W2: policies 1 and 2, priorities 1 and 99, slices 1 and 100, the full slice.
 
 abbrev pub lent2 : Tables
 lent2 =
-    lent (2 ∷ 2 ∷ 1 ∷ replicate 509 0) (1 ∷ 2 ∷ 1 ∷ replicate 509 0) (99 ∷ 99 ∷ 1 ∷ replicate 509 0) (0 ∷ 0 ∷ 1 ∷ replicate 509 0)
+    lent 100 (2 ∷ 2 ∷ 1 ∷ replicate 509 0) (1 ∷ 2 ∷ 1 ∷ replicate 509 0) (99 ∷ 99 ∷ 1 ∷ replicate 509 0) (0 ∷ 0 ∷ 1 ∷ replicate 509 0)
     (100 ∷ 1 ∷ 50 ∷ replicate 509 0) (1 ∷ 3 ∷ 1 ∷ replicate 509 0) (0 ∷ 1 ∷ replicate 1022 65535) (2 ∷ 0 ∷ []) (0 ∷ 1 ∷ []) (replicate 252 4)
 
 -- CPU 0 is at level 101, bit 37 of word 1, and CPU 1 at level 1
@@ -109,6 +112,13 @@ w2 =
     badEntry Column.policy 2 0 ∷ badEntry Column.policy 2 3 ∷ badEntry Column.prio 2 0 ∷ badEntry Column.prio 2 100
     ∷ badEntry Column.cpu 2 2 ∷ badEntry Column.slice 2 0 ∷ badEntry Column.slice 2 101 ∷ badEntry Column.mask 2 0 ∷ badEntry Column.mask 2 5 ∷ []
 
+-- L7: "W2 [..] use that number": a slice of 60, checked with full slices about it
+abbrev pub w2Full : List LentCase
+w2Full =
+    let holds60 : Tables = withEntry Column.slice 0 60 lent2 in
+    checking 0 (withFull 100 holds60) ∷ checking 2 (withFull 50 holds60) ∷ checking 0 (withFull 60 holds60) ∷ checking 2 (withFull 59 holds60)
+    ∷ checking 0 (withFull 1000 (withEntry Column.slice 0 1000 lent2)) ∷ []
+
 -- "W3. Row counts are at most 512; places before the count hold numbers below 512, the rest 65535. Flags are 0 or 1."
 abbrev pub w3 : List LentCase
 w3 =
@@ -147,7 +157,7 @@ w6 =
 abbrev pub dirty : ℕ → Tables
 dirty n =
     let column : List ℕ = replicate 512 7 in
-    lent column column column column column column (replicate (512 * n) 3) (replicate n 9) (replicate n 5) (replicate 252 4)
+    lent 100 column column column column column column (replicate (512 * n) 3) (replicate n 9) (replicate n 5) (replicate 252 4)
 
 abbrev pub noRecord : Record
 noRecord = lentRecord [] [] [] []
@@ -157,6 +167,13 @@ abbrev pub sizes : List LentCase
 sizes =
     answers 1 make 0 noRecord (dirty 0) ∷ answers 1 make 65 noRecord (dirty 65) ∷ answers 1 (handle (tick 0)) 0 noRecord (dirty 0)
     ∷ answers 1 (handle (tick 0)) 65 noRecord (dirty 65) ∷ answers 1 check 0 noRecord (dirty 0) ∷ answers 1 check 65 noRecord (dirty 65) ∷ []
+
+-- L7: "1 to 1,000 [..] one out of range is refused with 1", also where all else is right
+abbrev pub slices : List LentCase
+slices =
+    answers 1 make 2 record2 (withFull 0 lent2) ∷ answers 1 make 2 record2 (withFull 1001 lent2) ∷ answers 1 check 2 record2 (withFull 0 lent2)
+    ∷ answers 1 check 2 record2 (withFull 1001 lent2) ∷ answers 1 (handle (tick 0)) 2 record2 (withFull 0 lent2)
+    ∷ answers 1 (handle (tick 0)) 2 record2 (withFull 1001 lent2) ∷ []
 
 -- a column is one entry short
 abbrev pub shortColumn : Column → LentCase
@@ -177,18 +194,20 @@ lengths =
 
 -- "A fresh machine has all places free, rows empty, flags 0; every log number is set to 65535."; "Old table contents don't
 -- matter to the fresh maker."
-abbrev pub freshMade : List LentCase
-freshMade =
+abbrev pub madeWith : ℕ → LentCase
+madeWith full =
     let zeros : List ℕ = replicate 512 0 in
     record {
       call = make;
       n = 2;
       cpupri = noRecord;
-      tables = dirty 2;
+      tables = withFull full (dirty 2);
       expected = result 0 0 (lentRecord (3 ∷ replicate 101 0) (2 ∷ replicate 101 0) (1 ∷ 0 ∷ []) (0 ∷ 0 ∷ replicate 62 255))
-          (lent zeros zeros zeros zeros zeros zeros (replicate 1024 65535) (0 ∷ 0 ∷ []) (0 ∷ 0 ∷ []) (replicate 252 65535));
+          (lent full zeros zeros zeros zeros zeros zeros (replicate 1024 65535) (0 ∷ 0 ∷ []) (0 ∷ 0 ∷ []) (replicate 252 65535));
     }
-    ∷ []
+
+abbrev pub freshMade : List LentCase
+freshMade = madeWith 100 ∷ madeWith 1 ∷ madeWith 1000 ∷ []
 
 -- 2, "W1 to W6 fail anywhere", before 3, "kind not 1 to 9"; "A refusal reports 0 moves and changes nothing."
 abbrev pub illFormedFirst : List LentCase
@@ -204,13 +223,26 @@ handledMove =
       cpupri = record2;
       tables = lent2;
       expected = result 0 1 (lentRecord (replicate 101 0 ++ 3 ∷ []) (replicate 101 0 ++ 2 ∷ []) (0 ∷ 2 ^ 37 ∷ []) (101 ∷ 101 ∷ replicate 62 255))
-          (lent (lent2 .state) (lent2 .policy) (lent2 .prio) (0 ∷ 1 ∷ 1 ∷ replicate 509 0) (lent2 .slice) (lent2 .mask)
+          (lent 100 (lent2 .state) (lent2 .policy) (lent2 .prio) (0 ∷ 1 ∷ 1 ∷ replicate 509 0) (lent2 .slice) (lent2 .mask)
           (0 ∷ replicate 511 65535 ++ 1 ∷ replicate 511 65535) (1 ∷ 1 ∷ []) (0 ∷ 1 ∷ []) (1 ∷ 0 ∷ 1 ∷ 1 ∷ replicate 248 4));
     }
     ∷ []
 
+-- L7: "kinds 1 and 7 use that number": the last tick of a slice, on a machine of 1000: task 0, RR, goes behind task 1
+abbrev pub handledTick : List LentCase
+handledTick =
+    let ticking : Tables = withFull 1000 (withEntry Column.policy 0 2 (withEntry Column.slice 0 1 lent2)) in
+    record {
+      call = handle (tick 0);
+      n = 2;
+      cpupri = record2;
+      tables = ticking;
+      expected = result 0 0 record2 (withRows (1 ∷ 0 ∷ replicate 1022 65535) (2 ∷ 0 ∷ []) (withEntry Column.slice 0 1000 ticking));
+    }
+    ∷ []
+
 abbrev pub lentCases : List LentCase
-lentCases = w1 ++ w2 ++ w3 ++ w4 ++ w5 ++ w6 ++ sizes ++ lengths ++ freshMade ++ illFormedFirst ++ handledMove
+lentCases = w1 ++ w2 ++ w2Full ++ w3 ++ w4 ++ w5 ++ w6 ++ sizes ++ slices ++ lengths ++ freshMade ++ illFormedFirst ++ handledMove ++ handledTick
 
 -- ---- the finder
 

@@ -42,9 +42,12 @@ lowestPriority = 1
 abbrev pub highestPriority : ℕ
 highestPriority = 99
 
--- a full time slice, in ticks
-abbrev pub fullSlice : ℕ
-fullSlice = 100
+-- a full time slice has 1 to 1000 ticks, and 25 if its maker is told none
+abbrev pub longestSlice : ℕ
+longestSlice = 1000
+
+abbrev pub defaultSlice : ℕ
+defaultSlice = 25
 
 -- one task place: its entry in each column; `slice` is what is left, bit c of the affinity `mask` is CPU c
 pub record Task : Type 0 where
@@ -62,9 +65,10 @@ freeTask = record { state = free; policy = 0; prio = 0; cpu = 0; slice = 0; mask
 -- ---- the machine
 
 -- The columns stay columns. `rows` are the run queues: row c lists the tasks of CPU c in run order, the first runs, the others wait.
--- `flags` says which CPUs have ordinary work.
+-- `flags` says which CPUs have ordinary work. `full` is a full time slice, in ticks.
 pub record Machine : Type 0 where
   pub n : ℕ
+  pub full : ℕ
   pub state : List ℕ
   pub policy : List ℕ
   pub prio : List ℕ
@@ -105,11 +109,12 @@ abbrev pub running : Machine → ℕ → Option ℕ
 running m c = head (row m c)
 
 -- all places free, rows empty, flags 0
-abbrev pub fresh : ℕ → Machine
-fresh n =
+abbrev pub fresh : ℕ → ℕ → Machine
+fresh n full =
     let zeros : List ℕ = replicate taskPlaces 0 in
     record {
       n = n;
+      full = full;
       state = zeros;
       policy = zeros;
       prio = zeros;
@@ -150,32 +155,33 @@ lowestAllowed m k = first (allows m k) (m .n)
 -- ---- changing a machine
 
 -- all parts of a machine, in their order
-abbrev pub build : ℕ → List ℕ → List ℕ → List ℕ → List ℕ → List ℕ → List ℕ → List (List ℕ) → List ℕ → Machine
-build n ss ps qs cs ls ks rs fs = record { n = n; state = ss; policy = ps; prio = qs; cpu = cs; slice = ls; mask = ks; rows = rs; flags = fs }
+abbrev pub build : ℕ → ℕ → List ℕ → List ℕ → List ℕ → List ℕ → List ℕ → List ℕ → List (List ℕ) → List ℕ → Machine
+build n full ss ps qs cs ls ks rs fs =
+    record { n = n; full = full; state = ss; policy = ps; prio = qs; cpu = cs; slice = ls; mask = ks; rows = rs; flags = fs }
 
 pub data Column : Type 0 where
   state policy prio cpu slice mask : Column
 
 -- task t's entry in one column becomes v
 abbrev pub store : Column → ℕ → ℕ → Machine → Machine
-store state t v m = build (m .n) (set (m .state) t v) (m .policy) (m .prio) (m .cpu) (m .slice) (m .mask) (m .rows) (m .flags)
-store policy t v m = build (m .n) (m .state) (set (m .policy) t v) (m .prio) (m .cpu) (m .slice) (m .mask) (m .rows) (m .flags)
-store prio t v m = build (m .n) (m .state) (m .policy) (set (m .prio) t v) (m .cpu) (m .slice) (m .mask) (m .rows) (m .flags)
-store cpu t v m = build (m .n) (m .state) (m .policy) (m .prio) (set (m .cpu) t v) (m .slice) (m .mask) (m .rows) (m .flags)
-store slice t v m = build (m .n) (m .state) (m .policy) (m .prio) (m .cpu) (set (m .slice) t v) (m .mask) (m .rows) (m .flags)
-store mask t v m = build (m .n) (m .state) (m .policy) (m .prio) (m .cpu) (m .slice) (set (m .mask) t v) (m .rows) (m .flags)
+store state t v m = build (m .n) (m .full) (set (m .state) t v) (m .policy) (m .prio) (m .cpu) (m .slice) (m .mask) (m .rows) (m .flags)
+store policy t v m = build (m .n) (m .full) (m .state) (set (m .policy) t v) (m .prio) (m .cpu) (m .slice) (m .mask) (m .rows) (m .flags)
+store prio t v m = build (m .n) (m .full) (m .state) (m .policy) (set (m .prio) t v) (m .cpu) (m .slice) (m .mask) (m .rows) (m .flags)
+store cpu t v m = build (m .n) (m .full) (m .state) (m .policy) (m .prio) (set (m .cpu) t v) (m .slice) (m .mask) (m .rows) (m .flags)
+store slice t v m = build (m .n) (m .full) (m .state) (m .policy) (m .prio) (m .cpu) (set (m .slice) t v) (m .mask) (m .rows) (m .flags)
+store mask t v m = build (m .n) (m .full) (m .state) (m .policy) (m .prio) (m .cpu) (m .slice) (set (m .mask) t v) (m .rows) (m .flags)
 
 -- task t's entry in every column
 abbrev pub write : ℕ → Task → Machine → Machine
 write t τ m =
-    build (m .n) (set (m .state) t (τ .state)) (set (m .policy) t (τ .policy)) (set (m .prio) t (τ .prio)) (set (m .cpu) t (τ .cpu))
+    build (m .n) (m .full) (set (m .state) t (τ .state)) (set (m .policy) t (τ .policy)) (set (m .prio) t (τ .prio)) (set (m .cpu) t (τ .cpu))
     (set (m .slice) t (τ .slice)) (set (m .mask) t (τ .mask)) (m .rows) (m .flags)
 
 abbrev pub withRow : ℕ → List ℕ → Machine → Machine
-withRow c r m = build (m .n) (m .state) (m .policy) (m .prio) (m .cpu) (m .slice) (m .mask) (set (m .rows) c r) (m .flags)
+withRow c r m = build (m .n) (m .full) (m .state) (m .policy) (m .prio) (m .cpu) (m .slice) (m .mask) (set (m .rows) c r) (m .flags)
 
 abbrev pub withFlag : ℕ → ℕ → Machine → Machine
-withFlag c b m = build (m .n) (m .state) (m .policy) (m .prio) (m .cpu) (m .slice) (m .mask) (m .rows) (set (m .flags) c b)
+withFlag c b m = build (m .n) (m .full) (m .state) (m .policy) (m .prio) (m .cpu) (m .slice) (m .mask) (m .rows) (set (m .flags) c b)
 
 -- ---- entering and leaving a row
 

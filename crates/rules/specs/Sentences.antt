@@ -4,10 +4,10 @@
 use mathlib.Core.List.{List, [], _∷_, _++_}
 use Prim.Native.Nat.{ℕ, _-_, _^_}
 use lib.ListN.{replicate}
-use Rattle.rules.specs.Machine.{runnable, asleep, rr, fullSlice}
+use Rattle.rules.specs.Machine.{runnable, asleep, rr}
 use Rattle.rules.specs.Events.{Event, event}
 use Rattle.rules.specs.Cases.{add, addRR, remove, wake, sleep, priority, affinity, tick, yield, ordinary, after2}
-use Rattle.rules.specs.Cases.{Used, busy, idleCpu, shared, ordinaryCpu, task, runs, sleeps, gives, Case, case, fresh2, asleep2, runs2}
+use Rattle.rules.specs.Cases.{Used, busy, idleCpu, shared, ordinaryCpu, fullSlice, task, runs, sleeps, gives, refuses, Case, case, sliced, fresh2, asleep2, runs2}
 
 -- an RR task in row c, with the slice l
 abbrev pub runsRR : ℕ → ℕ → ℕ → ℕ → ℕ → Used
@@ -203,6 +203,26 @@ tickingNone =
     ∷ case 2 (addRR 0 20 1 ∷ wake 0 ∷ []) (tick 1) (gives 0 [] (busy 22 (0 ∷ []) ∷ idleCpu ∷ []) (runsRR 0 20 0 100 1 ∷ []))
     ∷ []
 
+-- L7: "The full slice becomes a number of the machine, 1 to 1,000"; "kinds 1 and 7 use that number, and one out of range is refused with 1". Two RR
+-- tasks in row [0, 1], with a full slice of so many ticks; and after k of them
+abbrev pub twoRR : List Event
+twoRR = addRR 0 20 1 ∷ addRR 1 20 1 ∷ wake 0 ∷ wake 1 ∷ []
+
+abbrev pub ranFor : ℕ → List Event
+ranFor k = twoRR ++ replicate k (tick 0)
+
+-- of 1: each tick puts the first behind its equal; of 25: 24 ticks leave 1, the next puts it behind its equal with 25 again; of 1000: one tick leaves 999
+abbrev pub fullSlices : List Case
+fullSlices =
+    sliced 1 1 [] (addRR 0 20 1) (gives 0 [] (idleCpu ∷ []) (task 0 asleep rr 20 0 1 1 ∷ []))
+    ∷ sliced 1 1 (ranFor 0) (tick 0) (gives 0 [] (busy 22 (1 ∷ 0 ∷ []) ∷ []) (runsRR 0 20 0 1 1 ∷ runsRR 1 20 0 1 1 ∷ []))
+    ∷ sliced 1 1 (ranFor 1) (tick 0) (gives 0 [] (busy 22 (0 ∷ 1 ∷ []) ∷ []) (runsRR 0 20 0 1 1 ∷ runsRR 1 20 0 1 1 ∷ []))
+    ∷ sliced 25 1 (ranFor 23) (tick 0) (gives 0 [] (busy 22 (0 ∷ 1 ∷ []) ∷ []) (runsRR 0 20 0 1 1 ∷ runsRR 1 20 0 25 1 ∷ []))
+    ∷ sliced 25 1 (ranFor 24) (tick 0) (gives 0 [] (busy 22 (1 ∷ 0 ∷ []) ∷ []) (runsRR 0 20 0 25 1 ∷ runsRR 1 20 0 25 1 ∷ []))
+    ∷ sliced 1000 1 [] (add 0 20 1) (gives 0 [] (idleCpu ∷ []) (task 0 asleep 1 20 0 1000 1 ∷ []))
+    ∷ sliced 1000 1 (ranFor 0) (tick 0) (gives 0 [] (busy 22 (0 ∷ 1 ∷ []) ∷ []) (runsRR 0 20 0 999 1 ∷ runsRR 1 20 0 1000 1 ∷ []))
+    ∷ sliced 0 1 [] (tick 0) (refuses 1 (idleCpu ∷ []) []) ∷ sliced 1001 1 [] (tick 0) (refuses 1 (idleCpu ∷ []) []) ∷ []
+
 -- 8, yield: "first task leaves and enters again; slice kept": behind its equal, before the lower one; whatever its policy
 abbrev pub yielding : List Case
 yielding =
@@ -324,6 +344,6 @@ refusal7 = fresh2 7 (ordinary 0 2) ∷ fresh2 7 (add 0 0 0) ∷ []
 abbrev pub sentences : List Case
 sentences =
     unusedNumbers ++ enteringRow ++ leavingRow ++ adding ++ removing ++ waking ++ wakingElsewhere ++ sleeping ++ prioritisingSleeper
-    ++ prioritisingSame ++ raising ++ lowering ++ loweringMoves ++ maskingSleeper ++ maskingHere ++ maskingAway ++ tickingRR ++ tickingOut ++ tickingNone ++ yielding ++ ordinaryWork
-    ++ movableLevels ++ stepsTaken ++ moverHighest ++ moverLowestCpu ++ moverEarliest ++ destinationLowest ++ migratingSlice ++ displacing
+    ++ prioritisingSame ++ raising ++ lowering ++ loweringMoves ++ maskingSleeper ++ maskingHere ++ maskingAway ++ tickingRR ++ tickingOut ++ tickingNone
+    ++ fullSlices ++ yielding ++ ordinaryWork ++ movableLevels ++ stepsTaken ++ moverHighest ++ moverLowestCpu ++ moverEarliest ++ destinationLowest ++ migratingSlice ++ displacing
     ++ refusal3 ++ refusal4 ++ refusal5 ++ refusal6 ++ refusal7

@@ -11,7 +11,7 @@ use Rattle.cpupri.specs.Found.{sizeFits}
 use Rattle.levels.specs.declared.record.Record.{Record}
 use Rattle.rules.specs.Lists.{joined}
 use Rattle.rules.specs.Machine.{Machine, taskPlaces, levels}
-use Rattle.rules.specs.WellFormed.{wellFormed}
+use Rattle.rules.specs.WellFormed.{sliceFits, wellFormed}
 use Rattle.rules.specs.Outcome.{entryWidth, logEntries}
 
 -- what an unused place of a row holds, and each number of a fresh log
@@ -21,8 +21,9 @@ nothing = 65535
 abbrev pub logPlaces : ℕ
 logPlaces = logEntries * entryWidth
 
--- task columns; rows as one list, row c from place 512 * c on; a count and a flag for each CPU; the move log
+-- the full slice, a number; task columns; rows as one list, row c from place 512 * c on; a count and a flag for each CPU; the move log
 pub record Tables : Type 0 where
+  pub full : ℕ
   pub state : List ℕ
   pub policy : List ℕ
   pub prio : List ℕ
@@ -35,9 +36,9 @@ pub record Tables : Type 0 where
   pub log : List ℕ
 
 -- put together, in that order
-abbrev pub lent : List ℕ → List ℕ → List ℕ → List ℕ → List ℕ → List ℕ → List ℕ → List ℕ → List ℕ → List ℕ → Tables
-lent ss ps qs cs ls ks rs ns fs log =
-    record { state = ss; policy = ps; prio = qs; cpu = cs; slice = ls; mask = ks; rows = rs; counts = ns; flags = fs; log = log }
+abbrev pub lent : ℕ → List ℕ → List ℕ → List ℕ → List ℕ → List ℕ → List ℕ → List ℕ → List ℕ → List ℕ → List ℕ → Tables
+lent full ss ps qs cs ls ks rs ns fs log =
+    record { full = full; state = ss; policy = ps; prio = qs; cpu = cs; slice = ls; mask = ks; rows = rs; counts = ns; flags = fs; log = log }
 
 -- ---- rows
 
@@ -62,6 +63,7 @@ abbrev pub machineOf : ℕ → Tables → Machine
 machineOf n s =
     record {
       n = n;
+      full = s .full;
       state = s .state;
       policy = s .policy;
       prio = s .prio;
@@ -75,6 +77,7 @@ machineOf n s =
 abbrev pub tablesOf : Machine → List ℕ → Tables
 tablesOf m log =
     record {
+      full = m .full;
       state = m .state;
       policy = m .policy;
       prio = m .prio;
@@ -112,10 +115,10 @@ recordFits m r = consistent (m .n) r && same (r .levels) (levels m)
 
 -- ---- all of it
 
--- N, and every table has its length
+-- N, the full slice, and every table has its length
 abbrev pub lengthsFit : ℕ → Tables → Bool
 lengthsFit n s =
-    sizeFits n && eqb (length (s .state)) taskPlaces && eqb (length (s .policy)) taskPlaces && eqb (length (s .prio)) taskPlaces
+    sizeFits n && sliceFits (s .full) && eqb (length (s .state)) taskPlaces && eqb (length (s .policy)) taskPlaces && eqb (length (s .prio)) taskPlaces
     && eqb (length (s .cpu)) taskPlaces && eqb (length (s .slice)) taskPlaces && eqb (length (s .mask)) taskPlaces
     && eqb (length (s .rows)) (taskPlaces * n) && eqb (length (s .counts)) n && eqb (length (s .flags)) n && eqb (length (s .log)) logPlaces
 

@@ -17,5 +17,7 @@ pub const LOWEST_PRIORITY: u8 = 1;
 
 pub const HIGHEST_PRIORITY: u8 = 99;
 
-// a full time slice, in ticks
-pub const FULL_SLICE: u16 = 100;
+// a full time slice, in ticks: the longest, and the one of a machine whose maker is told none
+pub const LONGEST_SLICE: u32 = 1000;
+
+pub const DEFAULT_SLICE: u32 = 25;

@@ -1,7 +1,8 @@
 // Runs a script: what a line asks for is done through the library, and the line is printed with what is answered. The cases of a
 // program are its standard input, so that another case needs no proof.
 //
-//     fresh, N 2                         a fresh machine of 2 CPUs
+//     fresh, N 2, slice 100              a fresh machine of 2 CPUs with a full slice of 100 ticks
+//     default, N 2                       the same by the maker that is told no full slice
 //     add 0, 1, 50, 3                    an event: who, a, b and mask; so with remove, wake, sleep, priority, mask,
 //                                        tick, yield and ordinary
 //     kind 10 0, 0, 0, 0                 an event of any kind
@@ -10,6 +11,7 @@
 //                                        (4) the CPUs, (5) the slices, (9) the flags
 //     give CPU 0 task 0, priority 90, mask 3    a task runs there, without an event
 //     next calls lend 2 rows             and as many counts and flags
+//     hand in slice 50                   the next calls have another full slice
 //     # words                            for the reader of the script alone
 //
 // Any other line is a title.
@@ -41,7 +43,7 @@ pub fn run() {
 
 // Line after line.
 fn lines(text: &[u8]) {
-    let mut t = Tables::fresh(0);
+    let mut t = Tables::fresh(0, false, 0);
     let mut at = 0;
     while at < text.len() {
         let line = line::read(text, at);
@@ -68,7 +70,9 @@ fn done(t: Tables, line: Line) -> Tables {
     let first = line.first;
     match first {
         b'#' => t,
-        b'f' => made(small(x.e)),
+        b'f' => made(Tables::fresh(small(x.d), true, word(x.e))),
+        b'd' => made(Tables::fresh(small(x.e), false, 0)),
+        b'h' => silent(t.handing(word(x.e))),
         b'c' => checked(t),
         b'l' => silent(t.put(x.c, x.d, x.e)),
         b'g' => silent(t.give(x.b, x.c, x.d, x.e)),
@@ -87,10 +91,10 @@ fn silent(t: Tables) -> Tables {
     t
 }
 
-fn made(n: u8) -> Tables {
-    let t = Tables::fresh(n);
-    let made = t.last;
-    print::answer(made.answer);
+// A fresh machine, with the maker's answer.
+fn made(t: Tables) -> Tables {
+    let last = t.last;
+    print::made(last.answer, t.full);
     t
 }
 

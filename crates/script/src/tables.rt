@@ -3,16 +3,17 @@ ghost use Prim.Native.Nat.{_≤_, _<_};
 use super::line::half;
 use super::line::small;
 use checker::fresh::Made;
+use checker::fresh::make_fresh;
 use cpupri::record::Record;
+use defaultmaker::make_fresh_default;
 use machine::Outcome;
 use rules::answer::ACCEPTED;
 use rules::log::LOG;
 use rules::task::FIFO;
-use rules::task::FULL_SLICE;
 use rules::task::RUNNABLE;
 
-// The tables are lent for `lent` CPUs, the first of 65 rows, counts and flags; anything but n is a wrong length. The answer, the moves and the
-// record are those of the last call.
+// The tables are lent for `lent` CPUs, the first of 65 rows, counts and flags; anything but n is a wrong length. The full slice is what the maker
+// handed back. The answer, the moves and the record are those of the last call.
 pub struct Tables {
     pub n: u8,
     pub lent: u8,
@@ -27,6 +28,7 @@ pub struct Tables {
     pub flags: [u8; 65],
     pub log: [u16; LOG],
     pub last: Outcome,
+    pub full: u32,
 }
 
 // The five numbers of an event.
@@ -45,9 +47,59 @@ fn part(cpus: u8) -> usize
     if cpus < 65 { cpus as usize } else { 65 }
 }
 
+// The maker that is told a full slice, or the one that is told none.
+fn make(
+    named: bool,
+    n: usize,
+    ticks: u32,
+    state: &mut [u8],
+    policy: &mut [u8],
+    prio: &mut [u8],
+    cpu: &mut [u8],
+    slice: &mut [u16],
+    mask: &mut [u64],
+    rows: &mut [u16],
+    counts: &mut [u16],
+    flags: &mut [u8],
+    log: &mut [u16],
+    record: Record,
+) -> Made {
+    if named {
+        return make_fresh(
+            n,
+            ticks,
+            state,
+            policy,
+            prio,
+            cpu,
+            slice,
+            mask,
+            rows,
+            counts,
+            flags,
+            log,
+            record,
+        );
+    }
+    make_fresh_default(
+        n,
+        state,
+        policy,
+        prio,
+        cpu,
+        slice,
+        mask,
+        rows,
+        counts,
+        flags,
+        log,
+        record,
+    )
+}
+
 impl Tables {
-    // A fresh machine of n CPUs, in tables that held something else.
-    pub fn fresh(n: u8) -> Tables {
+    // A fresh machine of n CPUs, in tables that held something else. A full slice has so many ticks, if it is named.
+    pub fn fresh(n: u8, named: bool, ticks: u32) -> Tables {
         let cpus = part(n);
         let mut state = [1u8; 512];
         let mut policy = [1u8; 512];
@@ -59,8 +111,10 @@ impl Tables {
         let mut counts = [1u16; 65];
         let mut flags = [1u8; 65];
         let mut log = [1u16; LOG];
-        let made = checker::fresh::make_fresh(
+        let made = make(
+            named,
             n as usize,
+            ticks,
             &mut state,
             &mut policy,
             &mut prio,
@@ -87,6 +141,7 @@ impl Tables {
             flags,
             log,
             last: first(made),
+            full: made.full,
         }
     }
 
@@ -105,6 +160,7 @@ impl Tables {
         let mut log = self.log;
         let o = machine::event(
             self.n as usize,
+            self.full,
             &mut state,
             &mut policy,
             &mut prio,
@@ -136,6 +192,7 @@ impl Tables {
             flags,
             log,
             last: o,
+            full: self.full,
         }
     }
 
@@ -160,6 +217,7 @@ impl Tables {
         let log = self.log;
         checker::check::check(
             self.n as usize,
+            self.full,
             &state,
             &policy,
             &prio,
@@ -178,6 +236,13 @@ impl Tables {
     pub fn lending(self, cpus: u8) -> Tables {
         let mut t = self;
         t.lent = cpus;
+        t
+    }
+
+    // The next calls hand in a full slice of so many ticks.
+    pub fn handing(self, ticks: u32) -> Tables {
+        let mut t = self;
+        t.full = ticks;
         t
     }
 
@@ -204,7 +269,7 @@ impl Tables {
         t.policy[i] = FIFO;
         t.prio[i] = small(priority);
         t.cpu[i] = small(cpu);
-        t.slice[i] = FULL_SLICE;
+        t.slice[i] = half(self.full as u64);
         t.mask[i] = mask;
         let row = below(cpu, 64);
         t.rows[512 * row] = half(task);

@@ -43,9 +43,9 @@ digit-one true h = refl
 digit-one false h = absurd (not-suc-le-zero h)
 
 -- the test of a task passes also where more is placed
-sound-more : (p q : Bool) (n : ℕ) (τ : Task) → (τ .state ≡ runnable → p ≡ true → q ≡ true) → soundWhen p n τ ≡ true → soundWhen q n τ ≡ true
+sound-more : (p q : Bool) (n full : ℕ) (τ : Task) → (τ .state ≡ runnable → p ≡ true → q ≡ true) → soundWhen p n full τ ≡ true → soundWhen q n full τ ≡ true
 unfolding soundWhen
-sound-more p q n τ f h = go (eqb (τ .state) free) h
+sound-more p q n full τ f h = go (eqb (τ .state) free) h
   where
     placed : (a b : Bool) → eqb (τ .state) runnable ≡ a → (b || (a && p && bit (τ .mask) (τ .cpu))) ≡ true → (b || (a && q && bit (τ .mask) (τ .cpu))) ≡ true
     placed a true e t = refl
@@ -54,12 +54,12 @@ sound-more p q n τ f h = go (eqb (τ .state) free) h
         and-both q (bit (τ .mask) (τ .cpu)) (f (eqb-true (τ .state) runnable e) (k .0)) (k .1)
     placed false false e t = t
 
-    go : (b : Bool) → cond b (zeros τ) (fits n τ && (eqb (τ .state) asleep || (eqb (τ .state) runnable && p && bit (τ .mask) (τ .cpu)))) ≡ true
-        → cond b (zeros τ) (fits n τ && (eqb (τ .state) asleep || (eqb (τ .state) runnable && q && bit (τ .mask) (τ .cpu)))) ≡ true
+    go : (b : Bool) → cond b (zeros τ) (fits n full τ && (eqb (τ .state) asleep || (eqb (τ .state) runnable && p && bit (τ .mask) (τ .cpu)))) ≡ true
+        → cond b (zeros τ) (fits n full τ && (eqb (τ .state) asleep || (eqb (τ .state) runnable && q && bit (τ .mask) (τ .cpu)))) ≡ true
     go true t = t
     go false t =
-        let k = both (fits n τ) (eqb (τ .state) asleep || (eqb (τ .state) runnable && p && bit (τ .mask) (τ .cpu))) t in
-        and-both (fits n τ) (eqb (τ .state) asleep || (eqb (τ .state) runnable && q && bit (τ .mask) (τ .cpu))) (k .0)
+        let k = both (fits n full τ) (eqb (τ .state) asleep || (eqb (τ .state) runnable && p && bit (τ .mask) (τ .cpu))) t in
+        and-both (fits n full τ) (eqb (τ .state) asleep || (eqb (τ .state) runnable && q && bit (τ .mask) (τ .cpu))) (k .0)
         (placed (eqb (τ .state) runnable) (eqb (τ .state) asleep) refl (k .1))
 
 falls-at : (p : ℕ → ℕ) (r : List ℕ) → ((i : ℕ) → suc i < length r → p (getD r (suc i) 0) ≤ p (getD r i 0)) → falls p r ≡ true
@@ -148,7 +148,7 @@ module _ (n : ℕ) (s : Tables) (shape : Shape (machineOf n s)) (rl : length (s 
   module _ (r : Record) (levelled : length (r .levels) ≡ cpuPlaces) (marks : List ℕ)
       (p : Rows n (s .state) (s .prio) (s .cpu) (s .rows) (s .counts) (s .flags) (r .levels))
       (placed : (u : ℕ) → mark marks u ≡ standings (s .counts) (s .rows) n u)
-      (q : Columns n (s .state) (s .policy) (s .prio) (s .cpu) (s .slice) (s .mask) marks) (ok : consistent n r ≡ true) where
+      (q : Columns n (s .full) (s .state) (s .policy) (s .prio) (s .cpu) (s .slice) (s .mask) marks) (ok : consistent n r ≡ true) where
     few : (c : ℕ) → c < n → getD (s .counts) c 0 ≤ taskPlaces
     few c h = p .row c h .most
 
@@ -192,7 +192,7 @@ module _ (n : ℕ) (s : Tables) (shape : Shape (machineOf n s)) (rl : length (s 
 
     task : (t : ℕ) → t < taskPlaces → soundTask m t (taskOf m t) ≡ true
     unfolding soundWhen
-    task t h = sound-more (marked marks t) (eqb (occ t (row m (taskOf m t .cpu))) 1) n (taskOf m t) (λ z e. once t e) (q t h)
+    task t h = sound-more (marked marks t) (eqb (occ t (row m (taskOf m t .cpu))) 1) n (s .full) (taskOf m t) (λ z e. once t e) (q t h)
 
     each-task : each (soundTask m) 0 (tasks m) ≡ true
     each-task =
@@ -274,7 +274,7 @@ module _ (n : ℕ) (s : Tables) (shape : Shape (machineOf n s)) (rl : length (s 
 
     bounded : (c i : ℕ) → c < n → i < getD (s .counts) c 0 → getD (s .prio) (getD (part (s .rows) c) i 0) 0 ≤ above (s .prio) (part (s .rows) c) i
     bounded c zero h l =
-        let f : Fit n (taskOf m (getD (part (s .rows) c) 0 0)) = runnable-fit m (getD (part (s .rows) c) 0 0) w (in-row m (getD (part (s .rows) c) 0 0) c w (listed c zero h l) .0) in
+        let f : Fit n (s .full) (taskOf m (getD (part (s .rows) c) 0 0)) = runnable-fit m (getD (part (s .rows) c) 0 0) w (in-row m (getD (part (s .rows) c) 0 0) c w (listed c zero h l) .0) in
         let high : getD (s .prio) (getD (part (s .rows) c) 0 0) 0 ≤ highestPriority = f .prio-high in
         omega arith
     bounded c (suc i) h l =
@@ -328,11 +328,11 @@ module _ (n : ℕ) (s : Tables) (shape : Shape (machineOf n s)) (rl : length (s 
             absurd (omega (arith, one))
 
     pub fit-columns : (marks : List ℕ) → ((u : ℕ) → mark marks u ≡ standings (s .counts) (s .rows) n u)
-        → Columns n (s .state) (s .policy) (s .prio) (s .cpu) (s .slice) (s .mask) marks
+        → Columns n (s .full) (s .state) (s .policy) (s .prio) (s .cpu) (s .slice) (s .mask) marks
     unfolding soundWhen
     fit-columns marks placed t h =
         let tests = both _ _ (both _ _ (front .1) .0) in
-        sound-more (eqb (occ t (row m (taskOf m t .cpu))) 1) (marked marks t) n (taskOf m t) (λ z e. in-set marks placed t e)
+        sound-more (eqb (occ t (row m (taskOf m t .cpu))) 1) (marked marks t) n (s .full) (taskOf m t) (λ z e. in-set marks placed t e)
         (subst (λ (τ : Task). soundTask m t τ ≡ true) (tasks-at m shape t h)
         (each-at freeTask (soundTask m) 0 (tasks m) (tests .0) t t (omega arith) (subst (λ (x : ℕ). t < x) (sym (tasks-length m shape)) h)))
 

@@ -40,15 +40,15 @@ taskAt state policy prio cpu slice mask t =
     task (getD state t 0) (getD policy t 0) (getD prio t 0) (getD cpu t 0) (getD slice t 0) (getD mask t 0)
 
 -- W2
-unfoldable pub rangesFit : ℕ → ℕ → ℕ → ℕ → ℕ → ℕ → Bool
-rangesFit n policy prio cpu slice mask = fits n (task runnable policy prio cpu slice mask)
+unfoldable pub rangesFit : ℕ → ℕ → ℕ → ℕ → ℕ → ℕ → ℕ → Bool
+rangesFit n full policy prio cpu slice mask = fits n full (task runnable policy prio cpu slice mask)
 
 -- W1 and W2, and of a runnable task W4: it is placed, and its CPU is allowed
-unfoldable pub soundWhen : Bool → ℕ → Task → Bool
-soundWhen placed n τ =
+unfoldable pub soundWhen : Bool → ℕ → ℕ → Task → Bool
+soundWhen placed n full τ =
     cond (eqb (τ .state) free) (zeros τ)
-    (fits n τ && (eqb (τ .state) asleep || (eqb (τ .state) runnable && placed && bit (τ .mask) (τ .cpu))))
+    (fits n full τ && (eqb (τ .state) asleep || (eqb (τ .state) runnable && placed && bit (τ .mask) (τ .cpu))))
 
-abbrev pub Columns : ℕ → List ℕ → List ℕ → List ℕ → List ℕ → List ℕ → List ℕ → List ℕ → Type 0
-Columns n state policy prio cpu slice mask marks =
-    (t : ℕ) → t < taskPlaces → soundWhen (marked marks t) n (taskAt state policy prio cpu slice mask t) ≡ true
+abbrev pub Columns : ℕ → ℕ → List ℕ → List ℕ → List ℕ → List ℕ → List ℕ → List ℕ → List ℕ → Type 0
+Columns n full state policy prio cpu slice mask marks =
+    (t : ℕ) → t < taskPlaces → soundWhen (marked marks t) n full (taskAt state policy prio cpu slice mask t) ≡ true

@@ -15,6 +15,7 @@ use runqueue::row::PLACES;
 // Each task in turn: W1 and W2, and a runnable one is in the set of those that stand in rows.
 pub fn columns_fit(
     n: usize,
+    full: u32,
     state: &[u8],
     policy: &[u8],
     prio: &[u8],
@@ -26,7 +27,7 @@ pub fn columns_fit(
     requires { ⌜ n ≤ cpuPlaces ⌝ }
     requires { ⌜ (length (now state) ≡ taskPlaces) × (length (now policy) ≡ taskPlaces) × (length (now prio) ≡ taskPlaces) ⌝ }
     requires { ⌜ (length (now cpu) ≡ taskPlaces) × (length (now slice) ≡ taskPlaces) × (length (now mask) ≡ taskPlaces) ⌝ }
-    ensures { λ b. ⌜ Says b (Columns n (old state) (old policy) (old prio) (old cpu) (old slice) (old mask) (old marks)) ⌝ }
+    ensures { λ b. ⌜ Says b (Columns n full (old state) (old policy) (old prio) (old cpu) (old slice) (old mask) (old marks)) ⌝ }
 {
     let mut t = 0;
     while t < PLACES {
@@ -34,6 +35,7 @@ pub fn columns_fit(
         if !task_fits(
             placed,
             n,
+            full,
             state[t],
             policy[t],
             prio[t],
@@ -52,6 +54,7 @@ pub fn columns_fit(
 fn task_fits(
     placed: bool,
     n: usize,
+    full: u32,
     state: u8,
     policy: u8,
     prio: u8,
@@ -60,12 +63,12 @@ fn task_fits(
     mask: u64,
 ) -> bool
     requires { ⌜ n ≤ cpuPlaces ⌝ }
-    ensures { λ b. ⌜ b ≡ soundWhen placed n (task state policy prio cpu slice mask) ⌝ }
+    ensures { λ b. ⌜ b ≡ soundWhen placed n full (task state policy prio cpu slice mask) ⌝ }
 {
     if state == task::FREE {
         return (policy == 0) & (prio == 0) & (cpu == 0) & (slice == 0) & (mask == 0);
     }
-    if !in_range(n, policy, prio, cpu, slice, mask) {
+    if !in_range(n, full, policy, prio, cpu, slice, mask) {
         return false;
     }
     (state == task::ASLEEP)
@@ -73,9 +76,9 @@ fn task_fits(
 }
 
 // W2 of one task.
-fn in_range(n: usize, policy: u8, prio: u8, cpu: u8, slice: u16, mask: u64) -> bool
+fn in_range(n: usize, full: u32, policy: u8, prio: u8, cpu: u8, slice: u16, mask: u64) -> bool
     requires { ⌜ n ≤ cpuPlaces ⌝ }
-    ensures { λ b. ⌜ b ≡ rangesFit n policy prio cpu slice mask ⌝ }
+    ensures { λ b. ⌜ b ≡ rangesFit n full policy prio cpu slice mask ⌝ }
 {
     (task::FIFO <= policy)
         & (policy <= task::RR)
@@ -83,6 +86,6 @@ fn in_range(n: usize, policy: u8, prio: u8, cpu: u8, slice: u16, mask: u64) -> b
         & (prio <= task::HIGHEST_PRIORITY)
         & ((cpu as usize) < n)
         & (1 <= slice)
-        & (slice <= task::FULL_SLICE)
+        & ((slice as u32) <= full)
         & mask_fits(n, mask)
 }

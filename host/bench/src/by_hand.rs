@@ -58,6 +58,7 @@ impl Side for ByHand {
         let (t, r) = (self.tables.clone(), &self.record);
         Tables {
             n: t.n,
+            full_slice: t.full_slice,
             state: t.state,
             policy: t.policy,
             prio: t.prio,
@@ -102,6 +103,7 @@ fn tables(t: &Tables) -> plain::Tables {
     let entry = |numbers: &[u16]| numbers.try_into().expect("a whole entry");
     plain::Tables {
         n: t.n,
+        full_slice: t.full_slice,
         state: t.state,
         policy: t.policy,
         prio: t.prio,
@@ -115,8 +117,9 @@ fn tables(t: &Tables) -> plain::Tables {
     }
 }
 
-/// Copies every table in place.
+/// Copies the full slice and every table in place.
 fn copy(from: &plain::Tables, to: &mut plain::Tables) {
+    to.full_slice = from.full_slice;
     to.state.copy_from_slice(&from.state);
     to.policy.copy_from_slice(&from.policy);
     to.prio.copy_from_slice(&from.prio);

@@ -49,8 +49,9 @@ fn accept(t: &mut Tables, e: Event) {
     assert_eq!(answer, 0, "{e:?}");
 }
 
+/// With document 01's full slice.
 fn fresh(n: usize) -> Tables {
-    Tables::fresh(n).expect("1 to 64 CPUs")
+    Tables::fresh_with_slice(n, 100).expect("1 to 64 CPUs")
 }
 
 /// Adds a task and wakes it.

@@ -2,13 +2,14 @@
 //!
 //! The tables are vectors, so that any length can be lent.
 
-/// Declares an entry that is lent the number of CPUs and the fourteen tables, `mut` or `const`, and then what is named.
+/// Declares an entry that is handed the numbers of the machine that are named first, then lent the fourteen tables, `mut` or
+/// `const`, and then handed what is named after them.
 #[macro_export]
 macro_rules! entry {
-    ($name:ident, $pointer:tt $(, $more:ident: $type:ty)*) => {
+    ($name:ident($($number:ident: $width:ty),*), $pointer:tt $(, $more:ident: $type:ty)*) => {
         extern "C" {
             fn $name(
-                n: usize,
+                $($number: $width,)*
                 state: *$pointer u8,
                 state_len: usize,
                 policy: *$pointer u8,
@@ -43,12 +44,13 @@ macro_rules! entry {
     };
 }
 
-/// Calls such an entry: each table is lent as its pointer, from `as_ptr` or `as_mut_ptr`, and its length.
+/// Calls such an entry: the machine's numbers are fields of the tables, and each table is lent as its pointer, from `as_ptr`
+/// or `as_mut_ptr`, and its length.
 #[macro_export]
 macro_rules! lend {
-    ($name:ident, $tables:expr, $pointer:ident $(, $more:expr)*) => {
+    ($name:ident($($number:ident),*), $tables:expr, $pointer:ident $(, $more:expr)*) => {
         $name(
-            $tables.n,
+            $($tables.$number,)*
             $tables.state.$pointer(),
             $tables.state.len(),
             $tables.policy.$pointer(),
@@ -82,9 +84,19 @@ macro_rules! lend {
     };
 }
 
-entry!(qoriwesh_make_fresh, mut);
-entry!(qoriwesh_check, const);
-entry!(qoriwesh_event, mut, kind: u32, who: u32, a: u32, b: u32, k: u64, moves: *mut u32);
+entry!(qoriwesh_make_fresh(n: usize, full_slice: u32), mut, made_slice: *mut u32);
+entry!(qoriwesh_make_fresh_default(n: usize), mut, made_slice: *mut u32);
+entry!(qoriwesh_check(n: usize, full_slice: u32), const);
+entry!(
+    qoriwesh_event(n: usize, full_slice: u32),
+    mut,
+    kind: u32,
+    who: u32,
+    a: u32,
+    b: u32,
+    k: u64,
+    moves: *mut u32
+);
 
 extern "C" {
     fn qoriwesh_find(
@@ -116,6 +128,12 @@ pub const LOG: usize = LOG_ENTRIES * LOG_WIDTH;
 pub const NOTHING: u16 = 65535;
 /// The level of a CPU that is not there, and of a search that finds nothing.
 pub const INVALID: u8 = 255;
+/// Ticks of a full slice: the least, the most, and those of a machine for which none are named.
+pub const SLICE_MIN: u32 = 1;
+pub const SLICE_MAX: u32 = 1000;
+pub const SLICE_DEFAULT: u32 = 25;
+/// What stands where a maker must write the full slice, also when it refuses: none that it may write.
+const UNWRITTEN: u32 = u32::MAX;
 
 /// The five numbers of an event.
 #[derive(Clone, Copy, Debug, PartialEq, Eq)]
@@ -125,6 +143,13 @@ pub struct Event {
     pub a: u32,
     pub b: u32,
     pub mask: u64,
+}
+
+/// What a maker answers: 0 and the machine's full slice, or a refusal and 0.
+#[derive(Clone, Copy, Debug, PartialEq, Eq)]
+pub struct Made {
+    pub answer: u8,
+    pub full_slice: u32,
 }
 
 /// What an event answers: 0 and the number of moves, or a refusal.
@@ -152,10 +177,11 @@ pub struct Found {
     pub mask: u64,
 }
 
-/// A machine's number of CPUs and its fourteen tables: any numbers, and any lengths.
+/// A machine's number of CPUs, its full slice in ticks and its fourteen tables: any numbers, and any lengths.
 #[derive(Clone, Debug, PartialEq, Eq)]
 pub struct Tables {
     pub n: usize,
+    pub full_slice: u32,
     pub state: Vec<u8>,
     pub policy: Vec<u8>,
     pub prio: Vec<u8>,
@@ -179,6 +205,7 @@ impl Tables {
         let cpus = n.min(CPUS);
         Tables {
             n,
+            full_slice: 0,
             state: vec![0; TASKS],
             policy: vec![0; TASKS],
             prio: vec![0; TASKS],
@@ -196,23 +223,62 @@ impl Tables {
         }
     }
 
-    /// A fresh machine of `n` CPUs, or the refusal.
+    /// A fresh machine of `n` CPUs with the default full slice, or the refusal.
     pub fn fresh(n: usize) -> Result<Tables, u8> {
         let mut tables = Tables::zeroed(n);
-        match tables.make_fresh() {
+        match tables.make_fresh_default().answer {
             0 => Ok(tables),
             refused => Err(refused),
         }
     }
 
-    pub fn make_fresh(&mut self) -> u8 {
-        // Safety: each pointer is a vector's own, with its length, and no two vectors overlap.
-        unsafe { lend!(qoriwesh_make_fresh, self, as_mut_ptr) }
+    /// The same with a full slice of so many ticks.
+    pub fn fresh_with_slice(n: usize, full_slice: u32) -> Result<Tables, u8> {
+        let mut tables = Tables::zeroed(n);
+        tables.full_slice = full_slice;
+        match tables.make_fresh().answer {
+            0 => Ok(tables),
+            refused => Err(refused),
+        }
+    }
+
+    /// Makes the tables a fresh machine's, with the full slice that they have.
+    pub fn make_fresh(&mut self) -> Made {
+        let mut full_slice = UNWRITTEN;
+        // Safety: each pointer is a vector's own, with its length, and no two vectors overlap; `full_slice` is a local of
+        // this function.
+        let answer = unsafe {
+            lend!(
+                qoriwesh_make_fresh(n, full_slice),
+                self,
+                as_mut_ptr,
+                &mut full_slice
+            )
+        };
+        Made { answer, full_slice }
+    }
+
+    /// The same with the default full slice, which they then have.
+    pub fn make_fresh_default(&mut self) -> Made {
+        let mut full_slice = UNWRITTEN;
+        // Safety: as in `make_fresh`.
+        let answer = unsafe {
+            lend!(
+                qoriwesh_make_fresh_default(n),
+                self,
+                as_mut_ptr,
+                &mut full_slice
+            )
+        };
+        if answer == 0 {
+            self.full_slice = full_slice;
+        }
+        Made { answer, full_slice }
     }
 
     pub fn check(&self) -> u8 {
         // Safety: as in `make_fresh`; nothing is written.
-        unsafe { lend!(qoriwesh_check, self, as_ptr) }
+        unsafe { lend!(qoriwesh_check(n, full_slice), self, as_ptr) }
     }
 
     pub fn event(&mut self, e: Event) -> Outcome {
@@ -220,7 +286,7 @@ impl Tables {
         // Safety: as in `make_fresh`; `moves` is a local of this function.
         let answer = unsafe {
             lend!(
-                qoriwesh_event,
+                qoriwesh_event(n, full_slice),
                 self,
                 as_mut_ptr,
                 e.kind,
@@ -299,5 +365,23 @@ mod tests {
         assert!(t.moves(2).eq([entry(0), entry(1)]));
         assert!(t.moves(63).eq((0..63).map(entry)));
         assert_eq!(t.moves(64).len(), 63);
+    }
+
+    /// A maker that accepts hands back the full slice, which the tables then have; a refusal hands back 0, and they keep theirs.
+    #[test]
+    fn makers_hand_back_the_full_slice() {
+        let made = |answer, full_slice| Made { answer, full_slice };
+        let mut t = Tables::zeroed(2);
+        t.full_slice = SLICE_MAX;
+        assert_eq!(t.make_fresh(), made(0, 1000));
+        assert_eq!(t.make_fresh_default(), made(0, 25));
+        assert_eq!(t.full_slice, SLICE_DEFAULT);
+        t.full_slice = 65536 + 25;
+        assert_eq!(t.make_fresh(), made(1, 0));
+        t.n = 65;
+        assert_eq!(t.make_fresh_default(), made(1, 0));
+        assert_eq!(t.full_slice, 65536 + 25);
+        assert_eq!(Tables::fresh(65), Err(1));
+        assert_eq!(Tables::fresh_with_slice(64, SLICE_MIN - 1), Err(1));
     }
 }

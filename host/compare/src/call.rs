@@ -7,6 +7,7 @@ use std::fmt;
 #[derive(Clone, Copy, Debug, PartialEq, Eq)]
 pub enum Call {
     MakeFresh,
+    MakeFreshDefault,
     Check,
     Event(Event),
     Find(u32, u64),
@@ -16,6 +17,8 @@ pub enum Call {
 #[derive(Clone, Copy, Debug, PartialEq, Eq)]
 pub struct Answer {
     pub number: u8,
+    /// What a maker hands back.
+    pub full_slice: u32,
     pub moves: u32,
     pub level: u8,
     pub mask: u64,
@@ -36,14 +39,21 @@ pub enum Inner {
 pub struct Agreed {
     pub answer: Answer,
     pub inner: Inner,
+    /// The full slice that the tables had.
+    pub full_slice: u32,
+    /// Refused with 1, and nothing but the full slice was out of range.
+    pub slice_alone: bool,
     /// A new priority for a runnable task that has others of this priority in its row: how it compares with the old one.
     pub among_equals: Option<Ordering>,
+    /// A tick that gave a task a full slice.
+    pub refilled: bool,
 }
 
 impl Answer {
     pub fn plain(number: u8) -> Answer {
         Answer {
             number,
+            full_slice: 0,
             moves: 0,
             level: 0,
             mask: 0,
@@ -55,6 +65,7 @@ impl fmt::Display for Call {
     fn fmt(&self, f: &mut fmt::Formatter) -> fmt::Result {
         match self {
             Call::MakeFresh => write!(f, "make_fresh"),
+            Call::MakeFreshDefault => write!(f, "make_fresh_default"),
             Call::Check => write!(f, "check"),
             Call::Event(e) => {
                 let (kind, who, a, b) = (e.kind, e.who, e.a, e.b);

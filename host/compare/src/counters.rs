@@ -7,10 +7,16 @@ use std::fmt;
 pub struct Counters {
     pub calls: u64,
     pub cases: u64,
-    /// By entry (make_fresh, check, event, find) and answer.
-    pub answers: [[u64; 10]; 4],
+    /// By entry and answer.
+    pub answers: [[u64; 10]; ENTRIES.len()],
+    /// Refused with 1 for the full slice alone, by entry.
+    pub slice_alone: [u64; ENTRIES.len()],
     /// By kind of event.
     pub accepted: [u64; 10],
+    /// Adds accepted with a full slice other than 100, the number that document 01 has.
+    pub added_other: u64,
+    /// Ticks that gave a task a full slice: with each of `SLICES`, and with others.
+    pub refilled: [u64; SLICES.len() + 1],
     /// New priorities for a runnable task that has others of this priority in its row: lowered, unchanged, raised.
     pub among_equals: [u64; 3],
     /// By number of moves.
@@ -30,8 +36,11 @@ impl Default for Counters {
         Counters {
             calls: 0,
             cases: 0,
-            answers: [[0; 10]; 4],
+            answers: [[0; 10]; ENTRIES.len()],
+            slice_alone: [0; ENTRIES.len()],
             accepted: [0; 10],
+            added_other: 0,
+            refilled: [0; SLICES.len() + 1],
             among_equals: [0; 3],
             moves: [0; 64],
             inner: 0,
@@ -43,43 +52,57 @@ impl Default for Counters {
     }
 }
 
-const ENTRIES: [&str; 4] = ["make_fresh", "check", "event", "find"];
+const ENTRIES: [&str; 5] = ["make_fresh", "make_fresh_default", "check", "event", "find"];
+
+/// The entries' numbers.
+pub const MAKE_FRESH: usize = 0;
+pub const MAKE_FRESH_DEFAULT: usize = 1;
+pub const CHECK: usize = 2;
+pub const EVENT: usize = 3;
+pub const FIND: usize = 4;
 
 /// Every refusal there is: entry, number.
-pub const REFUSALS: [(usize, usize); 16] = [
-    (0, 1),
-    (1, 1),
-    (1, 2),
-    (2, 1),
-    (2, 2),
-    (2, 3),
-    (2, 4),
-    (2, 5),
-    (2, 6),
-    (2, 7),
-    (2, 8),
-    (2, 9),
-    (3, 1),
-    (3, 2),
-    (3, 7),
-    (3, 8),
+pub const REFUSALS: [(usize, usize); 17] = [
+    (MAKE_FRESH, 1),
+    (MAKE_FRESH_DEFAULT, 1),
+    (CHECK, 1),
+    (CHECK, 2),
+    (EVENT, 1),
+    (EVENT, 2),
+    (EVENT, 3),
+    (EVENT, 4),
+    (EVENT, 5),
+    (EVENT, 6),
+    (EVENT, 7),
+    (EVENT, 8),
+    (EVENT, 9),
+    (FIND, 1),
+    (FIND, 2),
+    (FIND, 7),
+    (FIND, 8),
 ];
+
+/// Full slices whose ticks are counted by themselves: the limits, the default, and the one of document 01.
+const SLICES: [u32; 4] = [1, 25, 100, 1000];
 
 impl Counters {
     pub fn count(&mut self, call: Call, agreed: Agreed) {
         let answer = agreed.answer;
         let entry = match call {
-            Call::MakeFresh => 0,
-            Call::Check => 1,
-            Call::Event(_) => 2,
-            Call::Find(..) => 3,
+            Call::MakeFresh => MAKE_FRESH,
+            Call::MakeFreshDefault => MAKE_FRESH_DEFAULT,
+            Call::Check => CHECK,
+            Call::Event(_) => EVENT,
+            Call::Find(..) => FIND,
         };
         self.calls += 1;
         self.answers[entry][answer.number as usize] += 1;
+        self.slice_alone[entry] += u64::from(agreed.slice_alone);
         match call {
             Call::Event(e) if answer.number == 0 => {
                 self.accepted[e.kind as usize] += 1;
                 self.moves[answer.moves as usize] += 1;
+                self.added_other += u64::from(e.kind == 1 && agreed.full_slice != 100);
             }
             Call::Find(..) if answer.number == 0 && answer.mask == 0 => self.found_none += 1,
             Call::Find(..) if answer.number == 0 => self.found += 1,
@@ -87,6 +110,10 @@ impl Counters {
         }
         if let Some(way) = agreed.among_equals {
             self.among_equals[(way as i8 + 1) as usize] += 1;
+        }
+        if agreed.refilled {
+            let own = SLICES.iter().position(|&slice| slice == agreed.full_slice);
+            self.refilled[own.unwrap_or(SLICES.len())] += 1;
         }
         self.inner += u64::from(agreed.inner != Inner::No);
         if agreed.inner == Inner::Settled {
@@ -119,11 +146,46 @@ impl Counters {
                 return Err(format!("among equals {way} only {times} times"));
             }
         }
-        match (0..4).find(|&entry| self.answers[entry][0] < least) {
+        self.slices_reached(least)?;
+        match (0..ENTRIES.len()).find(|&entry| self.answers[entry][0] < least) {
             Some(entry) => Err(format!("{} was accepted too seldom", ENTRIES[entry])),
             None if self.most_moves() < 63 => Err(String::from("no event had 63 moves")),
             None => self.inner_reached(least),
         }
+    }
+
+    /// The same of full slices: refused for them alone by each entry that is handed one, added with others than 100, and
+    /// ticks that end a slice.
+    fn slices_reached(&self, least: u64) -> Result<(), String> {
+        for entry in [MAKE_FRESH, CHECK, EVENT] {
+            let (entry, times) = (ENTRIES[entry], self.slice_alone[entry]);
+            if times < least {
+                return Err(format!(
+                    "{entry} refused for the full slice alone only {times} times"
+                ));
+            }
+        }
+        for (slice, times) in self.refilled_by_slice() {
+            if times < least {
+                return Err(format!(
+                    "a tick refilled with full slice {slice} only {times} times"
+                ));
+            }
+        }
+        match self.added_other {
+            times if times < least => Err(format!(
+                "an add had a full slice other than 100 only {times} times"
+            )),
+            _ => Ok(()),
+        }
+    }
+
+    /// The full slices in words, and how many ticks refilled with each.
+    fn refilled_by_slice(&self) -> impl Iterator<Item = (String, u64)> + '_ {
+        let slices = SLICES.iter().map(u32::to_string);
+        slices
+            .chain([String::from("another")])
+            .zip(self.refilled.iter().copied())
     }
 
     /// The same of the inner event: on any machine, on settled ones, and there with moves.
@@ -155,26 +217,22 @@ impl Counters {
         self.settled += other.settled;
         self.found += other.found;
         self.found_none += other.found_none;
-        for (a, b) in self
-            .answers
-            .iter_mut()
-            .flatten()
-            .zip(other.answers.iter().flatten())
-        {
-            *a += b;
+        self.added_other += other.added_other;
+        for (mine, others) in self.answers.iter_mut().zip(&other.answers) {
+            add_each(mine, others);
         }
-        for (a, b) in self.accepted.iter_mut().zip(other.accepted) {
-            *a += b;
-        }
-        for (a, b) in self.among_equals.iter_mut().zip(other.among_equals) {
-            *a += b;
-        }
-        for (a, b) in self.moves.iter_mut().zip(other.moves) {
-            *a += b;
-        }
-        for (a, b) in self.settled_moves.iter_mut().zip(other.settled_moves) {
-            *a += b;
-        }
+        add_each(&mut self.slice_alone, &other.slice_alone);
+        add_each(&mut self.accepted, &other.accepted);
+        add_each(&mut self.refilled, &other.refilled);
+        add_each(&mut self.among_equals, &other.among_equals);
+        add_each(&mut self.moves, &other.moves);
+        add_each(&mut self.settled_moves, &other.settled_moves);
+    }
+}
+
+fn add_each(mine: &mut [u64], others: &[u64]) {
+    for (mine, other) in mine.iter_mut().zip(others) {
+        *mine += other;
     }
 }
 
@@ -192,6 +250,7 @@ impl fmt::Display for Counters {
             .map(|k| format!("{k}: {}", self.accepted[k]))
             .collect();
         writeln!(f, "  accepted by kind {}", kinds.join(", "))?;
+        self.write_slices(f)?;
         let [lowered, unchanged, raised] = self.among_equals;
         writeln!(
             f,
@@ -205,6 +264,29 @@ impl fmt::Display for Counters {
             "  inner event {inner}, also told that the machine is settled {settled}"
         )?;
         writeln!(f, "  these by moves {}", by_moves(&self.settled_moves))
+    }
+}
+
+impl Counters {
+    fn write_slices(&self, f: &mut fmt::Formatter) -> fmt::Result {
+        let alone: Vec<String> = [MAKE_FRESH, CHECK, EVENT]
+            .map(|entry| format!("{} {}", ENTRIES[entry], self.slice_alone[entry]))
+            .to_vec();
+        writeln!(
+            f,
+            "  refused for the full slice alone: {}",
+            alone.join(", ")
+        )?;
+        let refilled: Vec<String> = self
+            .refilled_by_slice()
+            .map(|(slice, times)| format!("{slice}: {times}"))
+            .collect();
+        writeln!(
+            f,
+            "  ticks that refill by full slice {}; adds with another than 100 {}",
+            refilled.join(", "),
+            self.added_other
+        )
     }
 }
 
@@ -227,4 +309,57 @@ fn by_moves(moves: &[u64; 64]) -> String {
         band(32, 63),
         most(moves)
     )
+}
+
+#[cfg(test)]
+mod tests {
+    use super::*;
+
+    /// A run in which all came up so often.
+    fn all(times: u64) -> Counters {
+        Counters {
+            answers: [[times; 10]; ENTRIES.len()],
+            slice_alone: [times; ENTRIES.len()],
+            accepted: [times; 10],
+            added_other: times,
+            refilled: [times; SLICES.len() + 1],
+            among_equals: [times; 3],
+            moves: [times; 64],
+            inner: times,
+            settled: times,
+            settled_moves: [times; 64],
+            ..Counters::default()
+        }
+    }
+
+    /// What is said if one thing came up once too seldom.
+    fn said(spoil: impl FnOnce(&mut Counters)) -> String {
+        let mut counters = all(9);
+        spoil(&mut counters);
+        counters.reached(9).expect_err("too seldom")
+    }
+
+    #[test]
+    fn each_way_with_full_slices_is_asked_for() {
+        assert_eq!(all(9).reached(9), Ok(()));
+        for (entry, name) in [
+            (MAKE_FRESH, "make_fresh"),
+            (CHECK, "check"),
+            (EVENT, "event"),
+        ] {
+            let words = format!("{name} refused for the full slice alone only 8 times");
+            assert_eq!(said(|c| c.slice_alone[entry] = 8), words);
+        }
+        for (i, slice) in ["1", "25", "100", "1000", "another"]
+            .into_iter()
+            .enumerate()
+        {
+            let words = format!("a tick refilled with full slice {slice} only 8 times");
+            assert_eq!(said(|c| c.refilled[i] = 8), words);
+        }
+        let words = "an add had a full slice other than 100 only 8 times";
+        assert_eq!(said(|c| c.added_other = 8), words);
+        let words = "make_fresh_default refused with 1 only 8 times";
+        assert_eq!(said(|c| c.answers[MAKE_FRESH_DEFAULT][1] = 8), words);
+    }
 }

@@ -2,7 +2,7 @@
 
 use crate::plan::enter_level;
 use crate::rng::Rng;
-use crate::tables::{get, len, resize, set, COUNT, NAMES};
+use crate::tables::{get, len, resize, right_lengths, set, COUNT, NAMES, SLICE};
 use binding::{Tables, CPUS, LEVELS, NOTHING, TASKS};
 use std::fmt;
 
@@ -20,6 +20,8 @@ pub enum Damage {
     },
     /// N, with the tables as they are.
     Cpus(usize),
+    /// The full slice, with the tables as they are.
+    FullSlice(u32),
     /// A CPU place at another level, in all four tables of the record: consistent in itself, if the level may be.
     Relevel {
         cpu: usize,
@@ -58,6 +60,7 @@ impl Damage {
             } => set(t, table, index, value),
             Damage::Resize { table, len } => resize(t, table, len),
             Damage::Cpus(n) => t.n = n,
+            Damage::FullSlice(full_slice) => t.full_slice = full_slice,
             _ if !right_lengths(t) => (),
             Damage::Relevel { cpu, level } => relevel(t, cpu, level),
             Damage::Swap { cpu, i, j } => t.rows.swap(TASKS * cpu + i, TASKS * cpu + j),
@@ -66,11 +69,6 @@ impl Damage {
             Damage::Reprio { cpu, prio } => reprio(t, cpu, prio),
         }
     }
-}
-
-fn right_lengths(t: &Tables) -> bool {
-    let good = Tables::zeroed(t.n);
-    (1..=CPUS).contains(&t.n) && (0..COUNT).all(|table| len(t, table) == len(&good, table))
 }
 
 fn relevel(t: &mut Tables, cpu: usize, level: u8) {
@@ -111,7 +109,7 @@ fn reprio(t: &mut Tables, cpu: usize, prio: u8) {
     }
 }
 
-const EDGES: [u64; 24] = [
+const EDGES: [u64; 26] = [
     0,
     1,
     2,
@@ -132,6 +130,8 @@ const EDGES: [u64; 24] = [
     511,
     512,
     513,
+    1000,
+    1001,
     65534,
     65535,
     1 << 63,
@@ -240,7 +240,7 @@ fn task_column(rng: &mut Rng, t: &Tables) -> Damage {
 
 /// The last good number of a column, or the first bad one.
 fn at_limit(rng: &mut Rng, t: &Tables, column: usize, task: usize) -> u64 {
-    let n = t.n as u64;
+    let (n, full_slice) = (t.n as u64, u64::from(t.full_slice));
     let past = 1u64.checked_shl(t.n as u32).unwrap_or(0);
     let own = 1u64 << (t.cpu[task] % 64);
     let old = t.mask[task];
@@ -248,7 +248,7 @@ fn at_limit(rng: &mut Rng, t: &Tables, column: usize, task: usize) -> u64 {
         0 | 1 => rng.pick(&[0, 1, 2, 3]),
         2 => rng.pick(&[0, 1, 99, 100]),
         3 => rng.pick(&[0, n - 1, n, 255]),
-        4 => rng.pick(&[0, 1, 100, 101]),
+        SLICE => rng.pick(&[0, 1, full_slice, full_slice + 1]),
         _ => rng.pick(&[0, old | past, old & !own, old & !own, own]),
     }
 }
@@ -275,6 +275,26 @@ pub fn wrong_size(rng: &mut Rng, t: &Tables) -> Damage {
         false => rng.below(2 * right + 2),
     };
     Damage::Resize { table, len }
+}
+
+/// A full slice out of range, or in range and not the one that the tables were made with: W2 then decides by the largest
+/// slice that they hold.
+pub fn other_full_slice(rng: &mut Rng, t: &Tables) -> Damage {
+    let (full, longest) = (t.full_slice, u32::from(longest_slice(t)));
+    let any = rng.bits() as u32 >> rng.below(32);
+    let wide = [65535, 65536, 65536 + full, 65536 + 25, any, u32::MAX];
+    let others = [full - 1, full + 1, longest, longest.saturating_sub(1)];
+    Damage::FullSlice(match rng.below(4) {
+        0 => rng.pick(&[0, 1001]),
+        1 => rng.pick(&wide),
+        2 => rng.pick(&others),
+        _ => rng.pick(&[1, 2, 25, 100, 999, 1000]),
+    })
+}
+
+/// The largest slice that the tables hold.
+fn longest_slice(t: &Tables) -> u16 {
+    t.slice.iter().copied().max().unwrap_or(0)
 }
 
 /// Of a log of entries of four numbers, its length with entries of three; of another table, just a wrong one.
@@ -317,6 +337,7 @@ impl fmt::Display for Damage {
             } => write!(f, "{}[{index}] := {value:#x}", NAMES[*table]),
             Damage::Resize { table, len } => write!(f, "{} has length {len}", NAMES[*table]),
             Damage::Cpus(n) => write!(f, "N := {n}"),
+            Damage::FullSlice(full_slice) => write!(f, "full slice := {full_slice}"),
             other => write!(f, "{other:?}"),
         }
     }

@@ -3,13 +3,15 @@
 use crate::call::Call;
 use crate::generate::{full, Style};
 use crate::rng::Rng;
+use crate::tables::ticks_left;
 use binding::{Event, Tables};
 
 /// The next call of a run. `pool` are the task numbers in use.
 pub fn call(rng: &mut Rng, t: &Tables, style: &Style, pool: &[u16]) -> Call {
     match rng.below(1000) {
         0 => Call::MakeFresh,
-        1..=20 => Call::Check,
+        1 => Call::MakeFreshDefault,
+        2..=20 => Call::Check,
         21..=70 => find(rng, style.n),
         71..=220 => Call::Event(hostile(rng, t, style, pool)),
         _ => Call::Event(plausible(rng, t, style, pool)),
@@ -18,10 +20,8 @@ pub fn call(rng: &mut Rng, t: &Tables, style: &Style, pool: &[u16]) -> Call {
 
 /// An event that the tables mostly accept. The numbers that its kind does not use are any.
 pub fn plausible(rng: &mut Rng, t: &Tables, style: &Style, pool: &[u16]) -> Event {
-    let shared: Vec<usize> = (0..t.n).filter(|&cpu| t.counts[cpu] > 1).collect();
-    if !shared.is_empty() && rng.percent(10) {
-        let row = t.row(rng.pick(&shared));
-        return among_equals(rng, t, row);
+    if let Some(e) = seldom(rng, t) {
+        return e;
     }
     let who = rng.pick(pool);
     let kind = match t.state.get(who as usize) {
@@ -52,6 +52,35 @@ pub fn plausible(rng: &mut Rng, t: &Tables, style: &Style, pool: &[u16]) -> Even
         e.mask = style.mask(rng);
     }
     e
+}
+
+/// Now and then an event for what would come up seldom: a new priority among equals, or a tick where a slice ends soonest.
+fn seldom(rng: &mut Rng, t: &Tables) -> Option<Event> {
+    let shared: Vec<usize> = (0..t.n).filter(|&cpu| t.counts[cpu] > 1).collect();
+    if !shared.is_empty() && rng.percent(10) {
+        let row = t.row(rng.pick(&shared));
+        return Some(among_equals(rng, t, row));
+    }
+    let least = (0..t.n).filter_map(|cpu| ticks_left(t, cpu)).min()?;
+    if rng.percent(80) {
+        return None;
+    }
+    let soonest: Vec<usize> = (0..t.n)
+        .filter(|&cpu| ticks_left(t, cpu) == Some(least))
+        .collect();
+    let cpu = rng.pick(&soonest);
+    Some(tick(rng, cpu))
+}
+
+fn tick(rng: &mut Rng, cpu: usize) -> Event {
+    let junk = rng.bits();
+    Event {
+        kind: 7,
+        who: cpu as u32,
+        a: junk as u32,
+        b: (junk >> 32) as u32,
+        mask: rng.bits(),
+    }
 }
 
 /// One of a row gets the priority of one of that row.

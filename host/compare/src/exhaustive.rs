@@ -8,50 +8,52 @@ use crate::generate::full;
 use crate::pair::Pair;
 use crate::plan::Plan;
 use crate::universe::Size;
+use binding::SLICE_DEFAULT;
 use reference::Mutant;
 use std::collections::HashSet;
 use std::fmt;
 
 /// Every well-formed machine of these sizes, settled or not, with every event. One has rows that are long enough for a task
-/// that gets another priority to stand anywhere among higher ones, equals and lower ones.
+/// that gets another priority to stand anywhere among higher ones, equals and lower ones. Full slices are short, so that
+/// ticks end them.
 pub const ALL_QUICK: &[Size] = &[
-    size(1, 2, &[1, 99], &[1, 2], &[1, 2], false),
-    size(2, 2, &[40, 50], &[1], &[100], false),
-    size(1, 4, &[30, 40, 50], &[1], &[100], true),
+    size(1, 2, &[1, 99], &[1, 2], 2, false),
+    size(2, 2, &[40, 50], &[2], 1, false),
+    size(1, 4, &[30, 40, 50], &[2], 1, true),
 ];
 
 pub const ALL_FULL: &[Size] = &[
-    size(1, 3, &[1, 99], &[2], &[1, 2], false),
-    size(2, 2, &[40, 50], &[1, 2], &[1], false),
-    size(3, 3, &[40, 50], &[1], &[100], true),
+    size(1, 3, &[1, 99], &[2], 2, false),
+    size(2, 2, &[40, 50], &[1, 2], 1, false),
+    size(3, 3, &[40, 50], &[1], 1, true),
 ];
 
 /// Every machine that events lead to from the fresh one.
 pub const REACH_QUICK: &[Size] = &[
-    size(1, 2, &[10, 20], &[1, 2], &[1, 2, 100], false),
-    size(2, 2, &[10, 20], &[1], &[100], false),
+    size(1, 2, &[10, 20], &[1, 2], 3, false),
+    size(2, 2, &[10, 20], &[1], 1, false),
 ];
 
 pub const REACH_FULL: &[Size] = &[
-    size(1, 3, &[10, 20], &[1], &[100], false),
-    size(2, 2, &[10, 20, 30], &[1], &[100], false),
-    size(2, 3, &[10, 20], &[1], &[100], false),
+    size(1, 3, &[10, 20], &[2], 1, false),
+    size(2, 2, &[10, 20, 30], &[2], 1, false),
+    size(2, 3, &[10, 20], &[1], 1, false),
 ];
 
 /// Every machine that wakes, sleeps, ticks and yields lead to, from any priorities and masks.
 pub const RUN_QUICK: &[Size] = &[
-    size(2, 3, &[10, 20, 30], &[1], &[100], false),
-    size(3, 3, &[10, 20], &[1], &[100], false),
+    size(2, 3, &[10, 20, 30], &[1], 1, false),
+    size(3, 3, &[10, 20], &[2], 1, false),
 ];
 
-pub const RUN_FULL: &[Size] = &[size(3, 3, &[10, 20, 30], &[1], &[100], false)];
+pub const RUN_FULL: &[Size] = &[size(3, 3, &[10, 20, 30], &[2], 1, false)];
 
 const fn size(
     n: usize,
     tasks: usize,
     prios: &'static [u8],
     policies: &'static [u8],
-    slices: &'static [u8],
+    full_slice: u16,
     crowded: bool,
 ) -> Size {
     Size {
@@ -59,7 +61,7 @@ const fn size(
         tasks,
         prios,
         policies,
-        slices,
+        full_slice,
         crowded,
     }
 }
@@ -161,8 +163,7 @@ pub fn reach(
     mutant: Mutant,
     counters: &mut Counters,
 ) -> Result<Reached, Box<Failure>> {
-    let starts = vec![Plan::empty(size.n)];
-    search(starts, &calls_of(size), size, limit, mutant, counters)
+    search(vec![size.empty()], &calls_of(size), limit, mutant, counters)
 }
 
 /// Every wake, sleep, tick and yield, from every setting of the size, until no machine is new or so many calls have
@@ -175,7 +176,7 @@ pub fn run_on(
 ) -> Result<Reached, Box<Failure>> {
     let runs = |call: &Call| matches!(call, Call::Event(e) if matches!(e.kind, 3 | 4 | 7 | 8));
     let calls: Vec<Call> = calls_of(size).into_iter().filter(runs).collect();
-    search(size.settings(), &calls, size, limit, mutant, counters)
+    search(size.settings(), &calls, limit, mutant, counters)
 }
 
 /// The finder with every level and every mask, on every record of up to three CPUs with these levels.
@@ -194,7 +195,7 @@ pub fn finder(mutant: Mutant, counters: &mut Counters) -> Option<Failure> {
                 level: level(cpu),
             };
             let case = Case {
-                plan: Plan::empty(n as usize),
+                plan: Plan::empty(n as usize, SLICE_DEFAULT),
                 damage: (0..n).map(relevel).collect(),
                 calls: calls.clone(),
             };
@@ -210,7 +211,6 @@ pub fn finder(mutant: Mutant, counters: &mut Counters) -> Option<Failure> {
 fn search(
     starts: Vec<Plan>,
     calls: &[Call],
-    size: &Size,
     limit: u64,
     mutant: Mutant,
     counters: &mut Counters,
@@ -231,11 +231,9 @@ fn search(
                 });
             }
             let mut next = |plan: Plan| {
-                for plan in slices_varied(plan, size) {
-                    if !seen.contains(&plan) {
-                        seen.insert(plan.clone());
-                        following.push(plan);
-                    }
+                if !seen.contains(&plan) {
+                    seen.insert(plan.clone());
+                    following.push(plan);
                 }
             };
             if let Some(failure) = every_event(plan, calls, mutant, counters, &mut next) {
@@ -251,23 +249,4 @@ fn search(
         depth,
         whole: true,
     })
-}
-
-/// The machine itself, if its slices are the size's; and, for an RR task with a full slice, the machines in which
-/// ticks have left it one of the others, which spares the search the many ticks between.
-fn slices_varied(plan: Plan, size: &Size) -> Vec<Plan> {
-    if plan.tasks.iter().any(|t| !size.slices.contains(&t.slice)) {
-        return Vec::new();
-    }
-    let mut all = vec![plan.clone()];
-    for (i, task) in plan.tasks.iter().enumerate() {
-        if task.policy == 2 && task.slice == 100 {
-            for &slice in size.slices {
-                let mut other = plan.clone();
-                other.tasks[i].slice = slice;
-                all.push(other);
-            }
-        }
-    }
-    all
 }

@@ -18,6 +18,7 @@ enum Masks {
 /// What the tasks of a machine have in common.
 pub struct Style {
     pub n: usize,
+    pub full_slice: u32,
     prios: Vec<u8>,
     masks: Masks,
     rr: usize,
@@ -30,6 +31,12 @@ pub struct Style {
 /// Every bit below N.
 pub fn full(n: usize) -> u64 {
     u64::MAX >> (64 - n)
+}
+
+/// A full slice: one at a limit, the default, the paper's 100, or any.
+fn full_slice(rng: &mut Rng) -> u32 {
+    let any = rng.within(1, 1000) as u32;
+    rng.pick(&[1, 1, 2, 3, 25, 25, 100, 100, 999, 1000, 1000, any])
 }
 
 impl Style {
@@ -46,9 +53,11 @@ impl Style {
             few => (0..few).map(|_| rng.within(1, 99) as u8).collect(),
         };
         let lively = rng.percent(30);
+        let full_slice = full_slice(rng);
         if lively {
             return Style {
                 n: rng.within(n, 64),
+                full_slice,
                 prios: (1..=99).collect(),
                 masks: rng.pick(&[Masks::Two, Masks::Neighbours]),
                 rr: 50,
@@ -59,6 +68,7 @@ impl Style {
         }
         Style {
             n,
+            full_slice,
             prios,
             masks: rng.pick(&[
                 Masks::All,
@@ -107,6 +117,19 @@ impl Style {
         }
     }
 
+    /// A slice that W2 accepts: few ticks, or any number of them, often the last one or all.
+    fn slice(&self, rng: &mut Rng) -> u16 {
+        let full = self.full_slice as usize;
+        let slice = match self.short_slices {
+            true => rng.within(1, full.min(3)),
+            false => {
+                let any = rng.within(1, full);
+                rng.pick(&[1, full, any])
+            }
+        };
+        slice as u16
+    }
+
     fn task(&self, rng: &mut Rng, id: u16) -> TaskPlan {
         let mask = self.mask(rng);
         let runnable = rng.percent(self.runnable);
@@ -117,17 +140,13 @@ impl Style {
             (true, false) => rng.pick(&allowed),
             (false, false) => rng.below(self.n),
         };
-        let slice = match self.short_slices {
-            true => rng.within(1, 3),
-            false => rng.within(1, 100),
-        };
         TaskPlan {
             id,
             runnable,
             policy: self.policy(rng),
             prio: self.prio(rng),
             cpu: cpu as u8,
-            slice: slice as u8,
+            slice: self.slice(rng),
             mask,
         }
     }
@@ -147,7 +166,8 @@ fn task_count(rng: &mut Rng, n: usize) -> usize {
 /// A chain: CPU c runs a task that may use c and c+1, each lower than the one before. One that takes the first
 /// CPU pushes all the others on: task 511, which sleeps yet or waits already.
 pub fn chain(rng: &mut Rng, style: &Style, asleep: bool) -> (Plan, Vec<u16>) {
-    let mut plan = Plan::empty(style.n);
+    let mut plan = Plan::empty(style.n, style.full_slice);
+    let full_slice = style.full_slice as u16;
     for c in 0..style.n {
         plan.tasks.push(TaskPlan {
             id: c as u16,
@@ -155,7 +175,7 @@ pub fn chain(rng: &mut Rng, style: &Style, asleep: bool) -> (Plan, Vec<u16>) {
             policy: 1,
             prio: 95 - c as u8,
             cpu: c as u8,
-            slice: 100,
+            slice: full_slice,
             mask: (3 << c) & full(style.n),
         });
     }
@@ -165,7 +185,7 @@ pub fn chain(rng: &mut Rng, style: &Style, asleep: bool) -> (Plan, Vec<u16>) {
         policy: style.policy(rng),
         prio: 99,
         cpu: 0,
-        slice: 7,
+        slice: full_slice.min(7),
         mask: 1,
     });
     let pool = plan.tasks.iter().map(|task| task.id).collect();
@@ -184,7 +204,7 @@ pub fn machine(rng: &mut Rng, style: &Style) -> (Plan, Vec<u16>) {
         let asleep = rng.percent(50);
         return chain(rng, style, asleep);
     }
-    let mut plan = Plan::empty(style.n);
+    let mut plan = Plan::empty(style.n, style.full_slice);
     let some = rng.bits();
     plan.flags = rng.pick(&[0, u64::MAX, some]) & full(style.n);
     plan.tasks = ids[..count].iter().map(|&id| style.task(rng, id)).collect();

@@ -12,8 +12,8 @@ use options::{parse, Options, HELP};
 use std::process::ExitCode;
 use std::time::Instant;
 
-/// The least number of times that each refusal, each kind of event, each way of a new priority among equals and the inner
-/// event must have come up in all modes together.
+/// The least number of times that each refusal, each kind of event, each way of a new priority among equals, ticks that
+/// refill with each of some full slices, and the inner event must have come up in all modes together.
 const LEAST: u64 = 1000;
 
 /// Calls of mode random in a quick run.
@@ -41,7 +41,9 @@ fn run_vectors(options: &Options) -> bool {
             good = false;
         }
     }
-    println!("vectors: K1 to K12 and the cases of request L3 on the library and on the reference");
+    println!(
+        "vectors: K1 to K12 and the cases of requests L3 and L7 on the library and on the reference"
+    );
     good
 }
 
@@ -72,11 +74,11 @@ fn size_words(size: &Size) -> String {
         tasks,
         prios,
         policies,
-        slices,
+        full_slice,
         crowded,
     } = size;
     let crowded = if *crowded { ", all runnable" } else { "" };
-    format!("N={n} tasks={tasks} prios={prios:?} policies={policies:?} slices={slices:?} all masks{crowded}")
+    format!("N={n} tasks={tasks} prios={prios:?} policies={policies:?} full slice {full_slice} all masks{crowded}")
 }
 
 /// The sizes of the run: the quick ones, and in a full run the others too.
@@ -119,8 +121,8 @@ fn first_call(failure: &Option<Failure>) -> String {
             let entry = match failure.case.calls.last() {
                 Some(Call::Event(e)) => format!("kind {}", e.kind),
                 Some(Call::Find(..)) => String::from("find"),
-                Some(Call::Check) => String::from("check"),
-                _ => String::from("make_fresh"),
+                Some(call) => call.to_string(),
+                None => String::from("no call"),
             };
             format!("call {} ({entry})", failure.calls)
         }
@@ -214,8 +216,8 @@ fn run(options: &Options) -> bool {
 fn enough(total: &Counters) -> bool {
     match total.reached(LEAST) {
         Ok(()) => println!(
-            "each refusal, each kind of event, each way of a new priority among equals and the inner event \
-             came up at least {LEAST} times"
+            "each refusal, each kind of event, each way of a new priority among equals, each way with full \
+             slices and the inner event came up at least {LEAST} times"
         ),
         Err(ref says) => println!("TOO FEW: {says}, {LEAST} are asked for"),
     }

@@ -24,13 +24,16 @@ impl Hunt {
     }
 }
 
-/// Looks for one error with at most so many calls in each random mode.
+/// Looks for one error with at most so many calls in each random mode. What damaged tables show, well-formed ones are asked
+/// for more briefly: many errors show on damaged ones alone.
 pub fn hunt(mutant: Mutant, seed: u64, calls: u64) -> Hunt {
+    let damaged = damaged::run(seed, calls, mutant, &mut Counters::default());
+    let fewer = if damaged.is_some() { calls / 4 } else { calls };
     let mut hunt = Hunt {
         mutant,
         examples: wrong(Side::Theirs(mutant)),
-        random: random::run(seed, calls, mutant, &mut Counters::default()),
-        damaged: damaged::run(seed, calls, mutant, &mut Counters::default()),
+        random: random::run(seed, fewer, mutant, &mut Counters::default()),
+        damaged,
         sweep: None,
     };
     if !hunt.found() {

@@ -4,7 +4,7 @@
 use crate::call::{Agreed, Answer, Call, Inner};
 use crate::demand3;
 use crate::difference::Difference;
-use crate::tables::{first_difference, for_reference};
+use crate::tables::{first_difference, for_reference, right_lengths, ticks_left};
 use binding::{Event, Outcome, Tables};
 use inner::{Checked, Settled};
 use reference::Mutant;
@@ -31,23 +31,30 @@ impl Pair {
     /// without its check.
     pub fn call(&mut self, call: Call) -> Result<Agreed, Difference> {
         let Call::Event(e) = call else {
-            return Ok(Agreed {
-                answer: self.call_both(call)?,
-                inner: Inner::No,
-                among_equals: None,
-            });
+            return self.agree_on(call);
         };
         let before = self.ours.clone();
-        let answer = self.call_both(call)?;
-        let mut among_equals = None;
-        if answer.number == 0 {
-            self.accepted(&demand3::Before::of(&before), e, answer)?;
-            among_equals = compare_among_equals(&before, e);
+        let mut agreed = self.agree_on(call)?;
+        if agreed.answer.number == 0 {
+            self.accepted(&demand3::Before::of(&before), e, agreed.answer)?;
+            agreed.among_equals = compare_among_equals(&before, e);
+            agreed.refilled = e.kind == 7 && ticks_left(&before, e.who as usize) == Some(1);
         }
+        agreed.inner = self.call_inner(before, e, agreed.answer)?;
+        Ok(agreed)
+    }
+
+    /// The call on both, and what can be said of any.
+    fn agree_on(&mut self, call: Call) -> Result<Agreed, Difference> {
+        let full_slice = self.ours.full_slice;
+        let answer = self.call_both(call)?;
         Ok(Agreed {
             answer,
-            inner: self.call_inner(before, e, answer)?,
-            among_equals,
+            inner: Inner::No,
+            full_slice,
+            slice_alone: answer.number == 1 && right_lengths(&self.ours),
+            among_equals: None,
+            refilled: false,
         })
     }
 
@@ -98,7 +105,14 @@ impl Pair {
 
     fn call_ours(&mut self, call: Call) -> Answer {
         match call {
-            Call::MakeFresh => Answer::plain(self.ours.make_fresh()),
+            Call::MakeFresh => {
+                let made = self.ours.make_fresh();
+                maker_answer(made.answer, made.full_slice)
+            }
+            Call::MakeFreshDefault => {
+                let made = self.ours.make_fresh_default();
+                maker_answer(made.answer, made.full_slice)
+            }
             Call::Check => Answer::plain(self.ours.check()),
             Call::Event(e) => event_answer(self.ours.event(e)),
             Call::Find(level, mask) => {
@@ -115,7 +129,14 @@ impl Pair {
     fn call_theirs(&mut self, call: Call) -> Answer {
         let (t, m) = (&mut self.theirs, self.mutant);
         match call {
-            Call::MakeFresh => Answer::plain(reference::make_fresh(t, m)),
+            Call::MakeFresh => {
+                let made = reference::make_fresh(t, m);
+                maker_answer(made.answer, made.full_slice)
+            }
+            Call::MakeFreshDefault => {
+                let made = reference::make_fresh_default(t, m);
+                maker_answer(made.answer, made.full_slice)
+            }
             Call::Check => Answer::plain(reference::check(t, m)),
             Call::Event(e) => {
                 let outcome = reference::event(t, for_reference_event(e), m);
@@ -149,6 +170,13 @@ fn compare_among_equals(t: &Tables, e: Event) -> Option<Ordering> {
     let row = t.row(t.cpu[who].into());
     let found = row.iter().any(equal);
     found.then(|| e.b.cmp(&t.prio[who].into()))
+}
+
+fn maker_answer(number: u8, full_slice: u32) -> Answer {
+    Answer {
+        full_slice,
+        ..Answer::plain(number)
+    }
 }
 
 fn event_answer(outcome: Outcome) -> Answer {
@@ -219,5 +247,43 @@ mod tests {
         assert_eq!(way(2, 50), Some(Ordering::Greater));
         assert_eq!([way(0, 50), way(0, 40), way(3, 30)], [None; 3]);
         assert_eq!(compare_among_equals(&t, event(4, 1, 0, 30, 0)), None);
+    }
+
+    /// Tables of 2 CPUs, lent with other numbers.
+    #[test]
+    fn a_refusal_is_for_the_full_slice_alone_or_not() {
+        let calls = [
+            Call::MakeFresh,
+            Call::Check,
+            Call::Event(event(7, 0, 0, 0, 0)),
+        ];
+        for (n, full_slice, answer) in [
+            (2, 1000, (0, false)),
+            (2, 1001, (1, true)),
+            (65, 1000, (1, false)),
+            (65, 1001, (1, false)),
+        ] {
+            for call in calls {
+                let t = Tables::fresh(2).expect("2 CPUs");
+                let mut pair = Pair::new(Tables { n, full_slice, ..t }, Mutant::None);
+                let agreed = pair.call(call).expect("the same");
+                assert_eq!((agreed.answer.number, agreed.slice_alone), answer, "{call}");
+                assert_eq!(agreed.full_slice, full_slice);
+            }
+        }
+    }
+
+    /// An RR task with slices of 2 ticks.
+    #[test]
+    fn a_tick_that_refills_is_seen() {
+        let t = Tables::fresh_with_slice(1, 2).expect("1 CPU");
+        let mut pair = Pair::new(t, Mutant::None);
+        let mut refills = |e| pair.call(Call::Event(e)).expect("the same").refilled;
+        assert!(!refills(event(1, 0, 2, 50, 1)));
+        assert!(!refills(event(3, 0, 0, 0, 0)));
+        let tick = event(7, 0, 0, 0, 0);
+        assert_eq!([tick; 4].map(&mut refills), [false, true, false, true]);
+        assert!(!refills(tick));
+        assert!(!refills(event(8, 0, 0, 0, 0)));
     }
 }

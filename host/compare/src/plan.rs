@@ -11,7 +11,7 @@ pub struct TaskPlan {
     pub policy: u8,
     pub prio: u8,
     pub cpu: u8,
-    pub slice: u8,
+    pub slice: u16,
     pub mask: u64,
 }
 
@@ -19,6 +19,7 @@ pub struct TaskPlan {
 #[derive(Clone, Debug, PartialEq, Eq, Hash)]
 pub struct Plan {
     pub n: usize,
+    pub full_slice: u32,
     /// Bit c: CPU c has ordinary work.
     pub flags: u64,
     pub tasks: Vec<TaskPlan>,
@@ -27,9 +28,10 @@ pub struct Plan {
 }
 
 impl Plan {
-    pub fn empty(n: usize) -> Plan {
+    pub fn empty(n: usize, full_slice: u32) -> Plan {
         Plan {
             n,
+            full_slice,
             flags: 0,
             tasks: Vec::new(),
             log: NOTHING,
@@ -38,7 +40,7 @@ impl Plan {
 
     /// The plan of well-formed tables, with the log forgotten. Equal machines have equal plans.
     pub fn read(t: &Tables) -> Plan {
-        let mut plan = Plan::empty(t.n);
+        let mut plan = Plan::empty(t.n, t.full_slice);
         for c in 0..t.n {
             plan.flags |= u64::from(t.flags[c]) << c;
         }
@@ -52,7 +54,7 @@ impl Plan {
                 policy: t.policy[i],
                 prio: t.prio[i],
                 cpu: t.cpu[i],
-                slice: t.slice[i] as u8,
+                slice: t.slice[i],
                 mask: t.mask[i],
             });
         }
@@ -61,6 +63,7 @@ impl Plan {
 
     pub fn tables(&self) -> Tables {
         let mut t = Tables::zeroed(self.n);
+        t.full_slice = self.full_slice;
         t.rows.fill(NOTHING);
         t.levels.fill(binding::INVALID);
         for i in 0..t.log.len() {
@@ -75,7 +78,7 @@ impl Plan {
             t.policy[i] = task.policy;
             t.prio[i] = task.prio;
             t.cpu[i] = task.cpu;
-            t.slice[i] = u16::from(task.slice);
+            t.slice[i] = task.slice;
             t.mask[i] = task.mask;
         }
         self.fill_rows(&mut t);
@@ -112,11 +115,16 @@ pub fn enter_level(t: &mut Tables, cpu: usize, level: u8) {
 
 impl fmt::Display for Plan {
     fn fmt(&self, f: &mut fmt::Formatter) -> fmt::Result {
-        let log = self.log;
+        let Plan {
+            n,
+            full_slice,
+            flags,
+            log,
+            ..
+        } = self;
         writeln!(
             f,
-            "  N={} ordinary={:#x} log from {log}",
-            self.n, self.flags
+            "  N={n} full slice {full_slice} ordinary={flags:#x} log from {log}"
         )?;
         for t in &self.tasks {
             let state = if t.runnable { "runnable" } else { "asleep" };

@@ -1,5 +1,5 @@
-//! Part of mode damaged that leaves nothing to chance: every wrong length, every single number of every table, and
-//! the numbers of events about all their limits, each with each.
+//! Part of mode damaged that leaves nothing to chance: every wrong length, full slices about all their limits, every single
+//! number of every table, and the numbers of events about all their limits, each with each.
 
 use crate::call::Call;
 use crate::case::{Case, Failure};
@@ -10,21 +10,28 @@ use crate::events;
 use crate::generate::Style;
 use crate::plan::{Plan, TaskPlan};
 use crate::rng::Rng;
-use crate::tables::{get, len, COUNT};
-use binding::{Event, Tables};
+use crate::tables::{get, len, COUNT, SLICE};
+use binding::{Event, Tables, SLICE_DEFAULT};
 use reference::Mutant;
 
-/// All lengths, and of the changed numbers and of the events one in `step`.
+/// All lengths, and of the machines with all full slices, of the changed numbers and of the events one in `step`.
 pub fn run(step: usize, mutant: Mutant, counters: &mut Counters) -> Option<Failure> {
     every_length(mutant, counters)
+        .or_else(|| every_slice(step, mutant, counters))
         .or_else(|| every_place(step, mutant, counters))
         .or_else(|| every_number(step, mutant, counters))
 }
 
-/// Three CPUs: one with waiting equals, one with ordinary work below its task, one empty with ordinary work; and
-/// sleepers, one of them on a CPU that it is not allowed.
-fn machine() -> Plan {
-    let task = |id, runnable, policy, prio, cpu, slice, mask| TaskPlan {
+/// A task: what it is, and where.
+fn task(
+    id: u16,
+    runnable: bool,
+    (policy, prio): (u8, u8),
+    cpu: u8,
+    slice: u16,
+    mask: u64,
+) -> TaskPlan {
+    TaskPlan {
         id,
         runnable,
         policy,
@@ -32,19 +39,25 @@ fn machine() -> Plan {
         cpu,
         slice,
         mask,
-    };
+    }
+}
+
+/// Three CPUs: one with waiting equals, one with ordinary work below its task, one empty with ordinary work; and
+/// sleepers, one of them on a CPU that it is not allowed. Slices from 1 to the full one.
+fn machine(full_slice: u16) -> Plan {
+    let left = |ticks: u16| ticks.min(full_slice);
     Plan {
         flags: 6,
         tasks: vec![
-            task(0, true, 2, 50, 0, 1, 1),
-            task(1, true, 1, 50, 0, 100, 3),
-            task(3, true, 1, 1, 0, 2, 1),
-            task(511, true, 2, 99, 1, 7, 7),
-            task(2, false, 1, 99, 2, 100, 4),
-            task(510, false, 2, 1, 1, 1, 5),
+            task(0, true, (2, 50), 0, 1, 1),
+            task(1, true, (1, 50), 0, full_slice, 3),
+            task(3, true, (1, 1), 0, left(2), 1),
+            task(511, true, (2, 99), 1, left(7), 7),
+            task(2, false, (1, 99), 2, full_slice, 4),
+            task(510, false, (2, 1), 1, 1, 5),
         ],
         log: 40_000,
-        ..Plan::empty(3)
+        ..Plan::empty(3, full_slice.into())
     }
 }
 
@@ -52,7 +65,7 @@ fn machine() -> Plan {
 fn wrong_sizes() -> Vec<(Plan, Damage)> {
     let mut all = Vec::new();
     for n in [1, 2, 3, 63, 64] {
-        let plan = Plan::empty(n);
+        let plan = Plan::empty(n, SLICE_DEFAULT);
         let good = plan.tables();
         for table in 0..COUNT {
             let right = len(&good, table);
@@ -98,6 +111,7 @@ fn every_length(mutant: Mutant, counters: &mut Counters) -> Option<Failure> {
             Call::Event(event),
             Call::Find(101, 1),
             Call::MakeFresh,
+            Call::MakeFreshDefault,
         ];
         let case = Case {
             plan,
@@ -108,41 +122,129 @@ fn every_length(mutant: Mutant, counters: &mut Counters) -> Option<Failure> {
     })
 }
 
-/// Numbers near an old one and far from it. In tables of 64-bit words, also each of the bits at some limits.
-fn others(table: usize, old: u64) -> Vec<u64> {
+/// Full slices about the limits, in range and out of it, also such as are in range when cut to 8, 16 or 24 bits.
+const FULL_SLICES: [u32; 27] = [
+    0,
+    1,
+    2,
+    24,
+    25,
+    26,
+    59,
+    60,
+    61,
+    99,
+    100,
+    101,
+    999,
+    1000,
+    1001,
+    1002,
+    1025,
+    65535,
+    65536,
+    65536 + 25,
+    65536 + 1000,
+    (1 << 24) + 25,
+    1 << 31,
+    (1 << 31) + 100,
+    u32::MAX - 1000,
+    u32::MAX - 25,
+    u32::MAX,
+];
+
+/// Every N with each of these full slices, handed in with tables whose longest slice is at it, below it and above it.
+fn every_slice(step: usize, mutant: Mutant, counters: &mut Counters) -> Option<Failure> {
+    const LONGEST: [u16; 7] = [1, 2, 25, 60, 100, 999, 1000];
+    for n in (1..=64).step_by(step) {
+        let longest = LONGEST[n % LONGEST.len()];
+        let plan = Plan {
+            tasks: vec![
+                task(0, true, (2, 50), 0, 1, 1),
+                task(1, true, (1, 50), 0, longest, 1),
+            ],
+            ..Plan::empty(n, longest.into())
+        };
+        let failure = FULL_SLICES.into_iter().find_map(|full_slice| {
+            let case = Case {
+                plan: plan.clone(),
+                damage: vec![Damage::FullSlice(full_slice)],
+                calls: slice_calls(),
+            };
+            case.run_counted(origin(None, mutant), counters)
+        });
+        if failure.is_some() {
+            return failure;
+        }
+    }
+    None
+}
+
+/// Each entry, the events that use the full slice, and both makers, each with an add after it.
+fn slice_calls() -> Vec<Call> {
+    let add = |who| Call::Event(event(1, who, 2, 50, 1));
+    vec![
+        Call::Check,
+        Call::Find(101, 1),
+        add(2),
+        Call::Event(event(7, 0, 0, 0, 0)),
+        Call::MakeFresh,
+        add(3),
+        Call::MakeFreshDefault,
+        add(4),
+        Call::Check,
+    ]
+}
+
+/// Numbers near an old one and far from it; in the slice column also the full slice and one more. In tables of 64-bit words,
+/// also each of the bits at some limits.
+fn others(good: &Tables, table: usize, index: usize) -> Vec<u64> {
+    let old = get(good, table, index);
     let mut all = vec![old.wrapping_add(1), old.wrapping_sub(1), old ^ 128];
     all.extend([0, 1, 2, 3, 100, 512, u64::MAX]);
+    if table == SLICE {
+        let full_slice = u64::from(good.full_slice);
+        all.extend([full_slice, full_slice + 1]);
+    }
     if [5, 10, 12].contains(&table) {
         all.extend([0, 2, 3, 37, 38, 63].map(|bit| old ^ (1 << bit)));
     }
     all
 }
 
-/// Each number of each table changed to others.
-fn changes(good: &Tables) -> impl Iterator<Item = Damage> + '_ {
+/// Full slices that the machines have whose numbers are changed, in turn from place to place.
+const IN_TURN: [u16; 4] = [1, 25, 100, 1000];
+
+/// Each number of each table changed to others: which of the machines, and what is changed.
+fn changes(good: &[Tables]) -> impl Iterator<Item = (usize, Damage)> + '_ {
     let places =
-        (0..COUNT).flat_map(|table| (0..len(good, table)).map(move |index| (table, index)));
-    places.flat_map(|(table, index)| {
-        let values = others(table, get(good, table, index));
-        values.into_iter().map(move |value| Damage::Set {
-            table,
-            index,
-            value,
+        (0..COUNT).flat_map(|table| (0..len(&good[0], table)).map(move |index| (table, index)));
+    places.enumerate().flat_map(|(i, (table, index))| {
+        let which = i % good.len();
+        let values = others(&good[which], table, index).into_iter();
+        values.map(move |value| {
+            let damage = Damage::Set {
+                table,
+                index,
+                value,
+            };
+            (which, damage)
         })
     })
 }
 
 fn every_place(step: usize, mutant: Mutant, counters: &mut Counters) -> Option<Failure> {
-    let good = machine().tables();
+    let machines = IN_TURN.map(machine);
+    let good = machines.each_ref().map(Plan::tables);
     let calls = vec![
         Call::Check,
         Call::Find(101, 7),
         Call::Event(event(7, 0, 0, 0, 0)),
     ];
     let mut chosen = changes(&good).step_by(step);
-    chosen.find_map(|damage| {
+    chosen.find_map(|(which, damage)| {
         let case = Case {
-            plan: machine(),
+            plan: machines[which].clone(),
             damage: vec![damage],
             calls: calls.clone(),
         };
@@ -183,7 +285,7 @@ fn every_number(step: usize, mutant: Mutant, counters: &mut Counters) -> Option<
             mask: MASKS[choose(MASKS.len())],
         };
         let case = Case {
-            plan: machine(),
+            plan: machine(SLICE_DEFAULT as u16),
             damage: Vec::new(),
             calls: vec![Call::Event(e)],
         };
@@ -200,6 +302,8 @@ mod tests {
 
     #[test]
     fn the_machine_is_well_formed() {
-        assert_eq!(machine().tables().check(), 0);
+        for full_slice in IN_TURN {
+            assert_eq!(machine(full_slice).tables().check(), 0);
+        }
     }
 }

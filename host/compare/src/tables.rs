@@ -1,10 +1,11 @@
 //! The fourteen tables by number, so that any of them can be damaged, resized or compared.
 
-use binding::Tables;
+use binding::{Tables, CPUS};
 
 pub const COUNT: usize = 14;
 
-/// The number of the log.
+/// The numbers of the slice column and of the log.
+pub const SLICE: usize = 4;
 pub const LOG: usize = 9;
 
 pub const NAMES: [&str; COUNT] = [
@@ -157,6 +158,7 @@ pub fn for_reference(t: &Tables) -> reference::Tables {
     let t = t.clone();
     reference::Tables {
         n: t.n,
+        full_slice: t.full_slice,
         state: t.state,
         policy: t.policy,
         prio: t.prio,
@@ -179,6 +181,7 @@ pub fn from_reference(t: &reference::Tables) -> Tables {
     let t = t.clone();
     Tables {
         n: t.n,
+        full_slice: t.full_slice,
         state: t.state,
         policy: t.policy,
         prio: t.prio,
@@ -194,6 +197,19 @@ pub fn from_reference(t: &reference::Tables) -> Tables {
         level_words: t.level_words,
         levels: t.levels,
     }
+}
+
+/// The ticks that are left to the task that runs on a CPU, if it is RR: at 1 the next tick ends its slice. Of well-formed
+/// tables.
+pub fn ticks_left(t: &Tables, cpu: usize) -> Option<u16> {
+    let runs = usize::from(*t.row(cpu).first()?);
+    (t.policy[runs] == 2).then_some(t.slice[runs])
+}
+
+/// Whether N is 1 to 64 and each table has the length that it asks for.
+pub fn right_lengths(t: &Tables) -> bool {
+    let good = Tables::zeroed(t.n);
+    (1..=CPUS).contains(&t.n) && (0..COUNT).all(|table| len(t, table) == len(&good, table))
 }
 
 /// All tables, byte by byte.

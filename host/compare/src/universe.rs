@@ -11,8 +11,8 @@ pub struct Size {
     pub tasks: usize,
     pub prios: &'static [u8],
     pub policies: &'static [u8],
-    /// Slices that machines have; a machine with others is not gone on from.
-    pub slices: &'static [u8],
+    /// Tasks have every slice from 1 to this.
+    pub full_slice: u16,
     /// Of `machines`: no place is free or asleep, and no CPU has ordinary work.
     pub crowded: bool,
 }
@@ -101,14 +101,19 @@ impl Size {
         all
     }
 
-    fn numbers(&self, mut with: impl FnMut(u8, u8, u8)) {
+    fn numbers(&self, mut with: impl FnMut(u8, u8, u16)) {
         for &policy in self.policies {
             for &prio in self.prios {
-                for &slice in self.slices {
+                for slice in 1..=self.full_slice {
                     with(policy, prio, slice);
                 }
             }
         }
+    }
+
+    /// The machine without a task.
+    pub fn empty(&self) -> Plan {
+        Plan::empty(self.n, self.full_slice.into())
     }
 
     /// Every machine whose tasks are all asleep on their lowest-numbered allowed CPU, but for renaming tasks.
@@ -143,7 +148,7 @@ impl Size {
         };
         let plan = |set: Vec<usize>| Plan {
             tasks: set.iter().enumerate().map(task).collect(),
-            ..Plan::empty(self.n)
+            ..self.empty()
         };
         sets.into_iter().map(plan).collect()
     }
@@ -169,7 +174,7 @@ impl Size {
                     all.push(Plan {
                         flags,
                         tasks: tasks.clone(),
-                        ..Plan::empty(self.n)
+                        ..self.empty()
                     });
                 }
             }
@@ -212,7 +217,7 @@ mod tests {
         tasks: 2,
         prios: &[7],
         policies: &[1],
-        slices: &[100],
+        full_slice: 1,
         crowded: false,
     };
 
@@ -228,6 +233,12 @@ mod tests {
         // A place: free; asleep, 2 CPUs times 3 masks; runnable, 4 ways. Two runnable of the same CPU, which are 2
         // times 2 times 2 ways, stand in either order.
         assert_eq!(SMALL.machines().len(), (11 * 11 + 8) * 4);
+        // Free, or asleep or runnable with one, two or three ticks left.
+        let ticks = Size {
+            full_slice: 3,
+            ..one
+        };
+        assert_eq!(ticks.machines().len(), (1 + 3 + 3) * 2);
     }
 
     #[test]

@@ -1,11 +1,12 @@
-//! K1 to K12 of the paper, with the paper's numbers, and some cases of request L3, on our library and on the reference. A
-//! log entry is (task, from, to, level of the destination before the move).
+//! K1 to K12 of the paper, with the paper's numbers and 100 named as the full slice, and some cases of requests L3 and L7, on
+//! our library and on the reference. A log entry is (task, from, to, level of the destination before the move).
 
 mod lowered;
+mod slices;
 
 use crate::pair::for_reference_event;
 use crate::tables::{for_reference, from_reference};
-use binding::{Event, Outcome, Tables};
+use binding::{Event, Made, Outcome, Tables};
 use reference::Mutant;
 
 /// Whose scheduler runs the examples.
@@ -16,8 +17,13 @@ pub enum Side {
 }
 
 enum Step {
-    /// A fresh machine of N CPUs, and the answer.
-    Fresh(usize, u8),
+    /// A fresh machine of N CPUs with this full slice, or by the maker that is told none; the answer, and what the maker
+    /// hands back. A refusal leaves the earlier machine.
+    Make(usize, Option<u32>, u8, u32),
+    /// From here on this full slice is handed in.
+    With(u32),
+    /// The check, and its answer.
+    Check(u8),
     /// An event, and the answer.
     Do(Event, u8),
     Rows(&'static [&'static [u16]]),
@@ -27,6 +33,8 @@ enum Step {
     Log(&'static [[u16; 4]]),
     /// A task's slice.
     Slice(usize, u16),
+    /// From here on the task has so many ticks left, written into its column.
+    Left(usize, u16),
 }
 
 use Step::*;
@@ -42,6 +50,15 @@ fn event(kind: u32, who: u32, a: u32, b: u32, mask: u64) -> Event {
         b,
         mask,
     }
+}
+
+/// A machine with 100 named.
+fn fresh(n: usize) -> Step {
+    Make(n, Some(100), 0, 100)
+}
+
+fn refused(n: usize, full_slice: Option<u32>) -> Step {
+    Make(n, full_slice, 1, 0)
 }
 
 fn add(who: u32, prio: u32, mask: u64) -> Step {
@@ -69,13 +86,13 @@ fn tick(cpu: u32) -> Step {
 }
 
 fn k1() -> Vec<Step> {
-    let wakes = vec![Fresh(1, 0), add(0, 50, 1), wake(0)];
+    let wakes = vec![fresh(1), add(0, 50, 1), wake(0)];
     then(wakes, vec![Rows(&[&[0]]), Levels(&[52]), Log(&[])])
 }
 
 fn k2() -> Vec<Step> {
     vec![
-        Fresh(2, 0),
+        fresh(2),
         add(0, 50, 3),
         add(1, 40, 3),
         wake(1),
@@ -97,7 +114,7 @@ fn k4() -> Vec<Step> {
 
 fn k5() -> Vec<Step> {
     vec![
-        Fresh(3, 0),
+        fresh(3),
         add(0, 30, 3),
         add(1, 20, 6),
         add(2, 10, 4),
@@ -129,7 +146,7 @@ fn k6() -> Vec<Step> {
 
 fn k7() -> Vec<Step> {
     vec![
-        Fresh(2, 0),
+        fresh(2),
         add(0, 60, 1),
         add(1, 50, 1),
         add(2, 40, 3),
@@ -152,7 +169,7 @@ fn k8() -> Vec<Step> {
 
 fn k9() -> Vec<Step> {
     let mut steps = vec![
-        Fresh(1, 0),
+        fresh(1),
         add_rr(0, 20, 1),
         add_rr(1, 20, 1),
         wake(0),
@@ -171,7 +188,7 @@ fn k9() -> Vec<Step> {
 
 fn k10() -> Vec<Step> {
     vec![
-        Fresh(3, 0),
+        fresh(3),
         Do(event(9, 1, 0, 1, 0), 0),
         add(0, 50, 7),
         add(1, 40, 7),
@@ -185,7 +202,7 @@ fn k10() -> Vec<Step> {
 
 fn k11() -> Vec<Step> {
     vec![
-        Fresh(1, 0),
+        fresh(1),
         add(0, 50, 1),
         add(1, 30, 1),
         wake(0),
@@ -198,9 +215,9 @@ fn k11() -> Vec<Step> {
 
 fn k12() -> Vec<Step> {
     vec![
-        Fresh(0, 1),
-        Fresh(65, 1),
-        Fresh(2, 0),
+        refused(0, Some(100)),
+        refused(65, Some(100)),
+        fresh(2),
         Do(event(1, 512, FIFO, 50, 3), 4),
         Do(event(3, 512, 0, 0, 0), 4),
         add(511, 1, 3),
@@ -211,7 +228,7 @@ fn k12() -> Vec<Step> {
         Do(event(1, 0, FIFO, 50, 0), 8),
         Do(event(1, 0, FIFO, 50, 4), 8),
         Do(event(8, 1, 0, 0, 0), 9),
-        Fresh(64, 0),
+        fresh(64),
         add(511, 99, 1 << 63),
         wake(511),
         Cpus(&[0]),
@@ -232,16 +249,36 @@ struct Run {
 }
 
 impl Run {
-    fn fresh(&mut self, n: usize) -> u8 {
-        self.t = Tables::zeroed(n);
-        match self.side {
-            Side::Ours => self.t.make_fresh(),
-            Side::Theirs(m) => {
-                let mut theirs = for_reference(&self.t);
-                let answer = reference::make_fresh(&mut theirs, m);
-                self.t = from_reference(&theirs);
-                answer
+    /// Makes a machine in tables of their own, which are the machine's if that is accepted.
+    fn make(&mut self, n: usize, full_slice: Option<u32>) -> Made {
+        let mut t = Tables::zeroed(n);
+        t.full_slice = full_slice.unwrap_or(0);
+        let made = match (self.side, full_slice) {
+            (Side::Ours, Some(_)) => t.make_fresh(),
+            (Side::Ours, None) => t.make_fresh_default(),
+            (Side::Theirs(m), _) => {
+                let mut theirs = for_reference(&t);
+                let made = match full_slice {
+                    Some(_) => reference::make_fresh(&mut theirs, m),
+                    None => reference::make_fresh_default(&mut theirs, m),
+                };
+                t = from_reference(&theirs);
+                Made {
+                    answer: made.answer,
+                    full_slice: made.full_slice,
+                }
             }
+        };
+        if made.answer == 0 {
+            self.t = t;
+        }
+        made
+    }
+
+    fn check(&self) -> u8 {
+        match self.side {
+            Side::Ours => self.t.check(),
+            Side::Theirs(m) => reference::check(&for_reference(&self.t), m),
         }
     }
 
@@ -263,7 +300,16 @@ impl Run {
     /// What is not as the paper says, if anything.
     fn step(&mut self, step: &Step) -> Result<(), String> {
         match *step {
-            Fresh(n, answer) => same("answer of make_fresh", self.fresh(n), answer),
+            Make(n, full_slice, answer, back) => {
+                let made = self.make(n, full_slice);
+                same("answer of the maker", made.answer, answer)?;
+                same("full slice handed back", made.full_slice, back)
+            }
+            With(full_slice) => {
+                self.t.full_slice = full_slice;
+                Ok(())
+            }
+            Check(answer) => same("answer of the check", self.check(), answer),
             Do(e, answer) => {
                 let outcome = self.event(e);
                 self.moves = outcome.moves;
@@ -281,6 +327,10 @@ impl Run {
                 same("log", &self.t.log[..log.len()], &log)
             }
             Slice(task, slice) => same("slice", self.t.slice[task], slice),
+            Left(task, slice) => {
+                self.t.slice[task] = slice;
+                Ok(())
+            }
         }
     }
 }
@@ -313,7 +363,8 @@ fn marked() -> [(&'static str, Vec<Step>); 12] {
 /// The examples that a side gets wrong, by name, and how.
 pub fn wrong(side: Side) -> Vec<String> {
     let mut wrong = Vec::new();
-    for (name, steps) in marked().into_iter().chain(lowered::cases()) {
+    let cases = marked().into_iter().chain(lowered::cases());
+    for (name, steps) in cases.chain(slices::cases()) {
         let mut run = Run {
             side,
             t: Tables::zeroed(1),

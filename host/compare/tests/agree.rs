@@ -1,6 +1,6 @@
 //! Small runs of the modes: our library and the reference agree.
 
-use compare::counters::{Counters, REFUSALS};
+use compare::counters::{Counters, CHECK, EVENT, FIND, MAKE_FRESH, REFUSALS};
 use compare::vectors::{wrong, Side};
 use compare::{damaged, exhaustive, random, sweep};
 use reference::Mutant;
@@ -28,6 +28,8 @@ fn random_machines() {
     assert_eq!(counters.most_moves(), 63);
     assert!((1..=9).all(|kind| counters.accepted[kind] > 0));
     assert!(counters.among_equals.iter().all(|&times| times > 50));
+    assert!(counters.refilled.iter().all(|&times| times > 20));
+    assert!(counters.added_other > 100);
     assert!(counters.settled > 1000 && counters.inner > counters.settled);
     assert!(counters.settled_moves[1] > 0 && counters.settled_moves[63] > 0);
 }
@@ -36,7 +38,10 @@ fn random_machines() {
 fn damaged_tables() {
     let mut counters = Counters::default();
     none(damaged::run(2, 10_000, Mutant::None, &mut counters));
-    assert!((1..=9).all(|number| counters.answers[2][number] > 0));
+    assert!((1..=9).all(|number| counters.answers[EVENT][number] > 0));
+    for entry in [MAKE_FRESH, CHECK, EVENT] {
+        assert!(counters.slice_alone[entry] > 20);
+    }
 }
 
 #[test]
@@ -44,8 +49,12 @@ fn every_length_place_and_number() {
     let mut counters = Counters::default();
     none(sweep::run(1, Mutant::None, &mut counters));
     // All refusals but the finder's, whose questions are those of `finder_questions`.
-    for (entry, number) in REFUSALS.into_iter().filter(|&(entry, _)| entry < 3) {
+    for (entry, number) in REFUSALS.into_iter().filter(|&(entry, _)| entry != FIND) {
         assert!(counters.answers[entry][number] > 0);
+    }
+    // By each entry that is handed a full slice, every N with each of the 14 that are out of range.
+    for entry in [MAKE_FRESH, CHECK, EVENT] {
+        assert!(counters.slice_alone[entry] >= 64 * 14);
     }
 }
 
@@ -68,5 +77,5 @@ fn finder_questions() {
     let mut counters = Counters::default();
     none(exhaustive::finder(Mutant::None, &mut counters));
     assert!(counters.found > 0 && counters.found_none > 0);
-    assert!(counters.answers[3][7] > 0 && counters.answers[3][8] > 0);
+    assert!(counters.answers[FIND][7] > 0 && counters.answers[FIND][8] > 0);
 }

@@ -38,10 +38,19 @@ fn marked_examples_show_the_errors_of_the_log() {
     assert!(shown(Mutant::LogWidthThree).starts_with("K5 log: [0, 0, 1, 1, "));
 }
 
+/// Each error has a case that shows it, by the first words of what is said then.
+fn shown(errors: &[(Mutant, &str)]) {
+    for &(mutant, name) in errors {
+        let said = wrong(Side::Theirs(mutant));
+        let shows = |says: &String| says.starts_with(name);
+        assert!(said.iter().any(shows), "{mutant:?}: {said:?}");
+    }
+}
+
 /// The errors about a new priority, each in a case that shows it; that of a lowered task behind its equals in K11 too.
 #[test]
 fn examples_show_the_errors_of_a_new_priority() {
-    for (mutant, name) in [
+    shown(&[
         (Mutant::LoweredBehindEquals, "K11 rows: [[1, 0]]"),
         (Mutant::LoweredBehindEquals, "lowered-runs-on "),
         (Mutant::LoweredBeforeAll, "lowered-waits "),
@@ -50,11 +59,31 @@ fn examples_show_the_errors_of_a_new_priority() {
         (Mutant::SamePriorityRequeues, "unchanged "),
         (Mutant::NoStepAfterLowered, "lowered-draws "),
         (Mutant::NoStepAfterLowered, "lowered-moves "),
-    ] {
-        let shown = wrong(Side::Theirs(mutant));
-        let shows = |says: &String| says.starts_with(name);
-        assert!(shown.iter().any(shows), "{mutant:?}: {shown:?}");
-    }
+    ]);
+}
+
+/// The errors about full slices, each in a case that shows it. That of the finder no case asks for.
+#[test]
+fn examples_show_the_errors_of_full_slices() {
+    shown(&[
+        (Mutant::TickRefillsHundred, "slice-1 slice: 100"),
+        (Mutant::TickRefillsHundred, "slice-25 slice: 100"),
+        (Mutant::TickRefillsHundred, "slice-1000 slice: 100"),
+        (Mutant::AddGivesHundred, "slice-default "),
+        (Mutant::AddGivesHundred, "slice-1000 slice: 100"),
+        (Mutant::SliceToHundred, "slice-60-left answer of the check"),
+        (
+            Mutant::SlicePastFullPasses,
+            "slice-1000 answer of the check",
+        ),
+        (Mutant::FullSliceZeroPasses, "slice-out-of-range "),
+        (Mutant::FullSlicePastPasses, "slice-out-of-range "),
+        (Mutant::FullSliceCut, "slice-out-of-range "),
+        (Mutant::FullSliceRefusedWithTwo, "slice-out-of-range "),
+        (Mutant::DefaultHundred, "slice-default full slice"),
+        (Mutant::RefusalHandsBackSlice, "K12 full slice"),
+        (Mutant::TickKeepsPlace, "slice-one-tick rows"),
+    ]);
 }
 
 /// The two pages that say how many errors there are.

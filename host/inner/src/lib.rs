@@ -35,6 +35,7 @@ extern "C" {
         level_counts: *mut u8,
         level_words: *mut u64,
         levels: *mut u8,
+        full_slice: u16,
         kind: u32,
         who: u32,
         a: u32,
@@ -105,8 +106,9 @@ impl Settled {
 /// The tables pass the check. If `settled` is said, no task is movable.
 unsafe fn event(settled: bool, t: &mut Tables, e: Event) -> Outcome {
     let mut moves = 0;
-    // Safety: the tables pass the check, so the record's four have their lengths; each pointer is a vector's own, with its
-    // length, and no two vectors overlap; `moves` is a local of this function.
+    // Safety: the tables pass the check, so the record's four have their lengths and the full slice, at most 1000, is whole
+    // in 16 bits; each pointer is a vector's own, with its length, and no two vectors overlap; `moves` is a local of this
+    // function.
     let answer = unsafe {
         qoriwesh_inner_event(
             settled,
@@ -135,6 +137,7 @@ unsafe fn event(settled: bool, t: &mut Tables, e: Event) -> Outcome {
             t.level_counts.as_mut_ptr(),
             t.level_words.as_mut_ptr(),
             t.levels.as_mut_ptr(),
+            t.full_slice as u16,
             e.kind,
             e.who,
             e.a,
@@ -146,8 +149,9 @@ unsafe fn event(settled: bool, t: &mut Tables, e: Event) -> Outcome {
     Outcome { answer, moves }
 }
 
-/// Copies every table in place.
+/// Copies the full slice and every table in place.
 fn copy(from: &Tables, to: &mut Tables) {
+    to.full_slice = from.full_slice;
     to.state.copy_from_slice(&from.state);
     to.policy.copy_from_slice(&from.policy);
     to.prio.copy_from_slice(&from.prio);
@@ -162,4 +166,27 @@ fn copy(from: &Tables, to: &mut Tables) {
     to.level_counts.copy_from_slice(&from.level_counts);
     to.level_words.copy_from_slice(&from.level_words);
     to.levels.copy_from_slice(&from.levels);
+}
+
+#[cfg(test)]
+mod tests {
+    use super::*;
+
+    /// Taken over with the tables, and handed in with either event.
+    #[test]
+    fn the_full_slice_is_copied_too() {
+        let fresh = |ticks| Settled::new(Tables::fresh_with_slice(1, ticks).expect("1 CPU"));
+        let mut now = fresh(2);
+        now.copy_from(&fresh(40));
+        let add = |who| Event {
+            kind: 1,
+            who,
+            a: 1,
+            b: 50,
+            mask: 1,
+        };
+        assert_eq!(now.event(add(0)).answer, 0);
+        assert_eq!(now.checked_event(add(1)).answer, 0);
+        assert_eq!(now.tables().slice[..2], [40, 40]);
+    }
 }

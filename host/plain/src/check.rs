@@ -3,14 +3,14 @@
 use crate::consistent::is_consistent;
 use crate::find::mask_fits;
 use crate::record::{level_of, Record};
-use crate::tables::{Tables, ASLEEP, FREE, FULL_SLICE, NOTHING, RUNNABLE, TASKS};
+use crate::tables::{Tables, ASLEEP, FREE, NOTHING, RUNNABLE, TASKS};
 
 /// Which tasks stand in rows, 64 to a word.
 type Placed = [u64; TASKS / 64];
 
 /// 0, 1 or 2.
 pub fn check(t: &Tables, record: &Record) -> u8 {
-    if !t.lengths_fit() {
+    if !t.sizes_fit() {
         return 1;
     }
     let mut placed = [0; TASKS / 64];
@@ -71,6 +71,7 @@ fn tasks_fit(t: &Tables, cpu: usize, tasks: &[u16], placed: &mut Placed) -> bool
 /// The task columns of a machine of n CPUs, with their lengths known.
 struct Columns<'a> {
     n: usize,
+    full_slice: u16,
     state: &'a [u8; TASKS],
     policy: &'a [u8; TASKS],
     prio: &'a [u8; TASKS],
@@ -83,6 +84,7 @@ fn columns_fit(t: &Tables, placed: &Placed) -> bool {
     let checked = "lengths were checked";
     let columns = Columns {
         n: t.n,
+        full_slice: t.full_slice as u16,
         state: t.state[..].try_into().expect(checked),
         policy: t.policy[..].try_into().expect(checked),
         prio: t.prio[..].try_into().expect(checked),
@@ -104,7 +106,7 @@ impl Columns<'_> {
         let in_range = matches!(policy, 1 | 2)
             && (1..=99).contains(&prio)
             && (cpu as usize) < self.n
-            && (1..=FULL_SLICE).contains(&slice)
+            && (1..=self.full_slice).contains(&slice)
             && mask_fits(self.n, mask);
         match self.state[task] {
             ASLEEP => in_range,

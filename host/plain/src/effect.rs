@@ -6,7 +6,7 @@ use crate::find::mask_fits;
 use crate::record::{level_of, Record};
 use crate::row;
 use crate::settle::{Few, NOWHERE};
-use crate::tables::{Lent, ASLEEP, FREE, FULL_SLICE, NOTHING, RR, RUNNABLE, TASKS};
+use crate::tables::{Lent, ASLEEP, FREE, NOTHING, RR, RUNNABLE, TASKS};
 use std::cmp::Ordering;
 use std::mem::replace;
 
@@ -47,7 +47,7 @@ pub fn add(t: &mut Lent, _: &mut Record, e: &Event) -> Result<Few, u8> {
     t.policy[who] = e.a as u8;
     t.prio[who] = e.b as u8;
     t.cpu[who] = e.mask.trailing_zeros() as u8;
-    t.slice[who] = FULL_SLICE;
+    t.slice[who] = t.full_slice;
     t.mask[who] = e.mask;
     Ok(Few::NONE)
 }
@@ -138,7 +138,7 @@ pub fn tick(t: &mut Lent, _: &mut Record, e: &Event) -> Result<Few, u8> {
     if t.slice[first] > 0 {
         return Ok(Few::NONE);
     }
-    t.slice[first] = FULL_SLICE;
+    t.slice[first] = t.full_slice;
     Ok(requeue(t, cpu))
 }
 

@@ -19,4 +19,4 @@ pub use check::check;
 pub use event::{event, handle, Event, Outcome};
 pub use find::{find, Found};
 pub use record::Record;
-pub use tables::{Lent, Tables};
+pub use tables::{Lent, Made, Tables};

@@ -1,6 +1,7 @@
-//! The ten tables that a caller lends, and their lengths.
+//! The ten tables that a caller lends, their lengths, and the two numbers of the machine.
 
 use crate::record::{Record, CPUS};
+use std::mem::replace;
 
 pub const TASKS: usize = 512;
 /// Entries of the log, and the numbers of one.
@@ -13,7 +14,10 @@ pub const FREE: u8 = 0;
 pub const ASLEEP: u8 = 1;
 pub const RUNNABLE: u8 = 2;
 pub const RR: u8 = 2;
-pub const FULL_SLICE: u16 = 100;
+
+/// Ticks of a full slice at most, and where none are named.
+pub const SLICE_MAX: u32 = 1000;
+pub const SLICE_DEFAULT: u32 = 25;
 
 /// The places of one CPU: who runs, who waits, and 65535 in the rest.
 pub type Row = [u16; TASKS];
@@ -25,6 +29,7 @@ pub type Entry = [u16; ENTRY];
 #[derive(Clone, Debug, PartialEq, Eq)]
 pub struct Tables {
     pub n: usize,
+    pub full_slice: u32,
     pub state: Vec<u8>,
     pub policy: Vec<u8>,
     pub prio: Vec<u8>,
@@ -40,6 +45,7 @@ pub struct Tables {
 /// The same tables, lent with the lengths that n CPUs ask for: there are n rows, counts and flags.
 pub struct Lent<'a> {
     pub n: usize,
+    pub full_slice: u16,
     pub state: &'a mut [u8; TASKS],
     pub policy: &'a mut [u8; TASKS],
     pub prio: &'a mut [u8; TASKS],
@@ -52,23 +58,39 @@ pub struct Lent<'a> {
     pub log: &'a mut [Entry; ENTRIES],
 }
 
+/// What a maker answers: 0 and the machine's full slice, or 1 and 0.
+#[derive(Clone, Copy, Debug, PartialEq, Eq)]
+pub struct Made {
+    pub answer: u8,
+    pub full_slice: u32,
+}
+
+impl Made {
+    const REFUSED: Made = Made {
+        answer: 1,
+        full_slice: 0,
+    };
+}
+
 impl Tables {
-    /// N is 1 to 64 and each table has its length.
-    pub fn lengths_fit(&self) -> bool {
+    /// N is 1 to 64, the full slice is 1 to 1000, and each table has its length.
+    pub fn sizes_fit(&self) -> bool {
         (1..=CPUS).contains(&self.n)
+            && (1..=SLICE_MAX).contains(&self.full_slice)
             && [self.state.len(), self.policy.len(), self.prio.len()] == [TASKS; 3]
             && [self.cpu.len(), self.slice.len(), self.mask.len()] == [TASKS; 3]
             && [self.rows.len(), self.counts.len(), self.flags.len()] == [self.n; 3]
             && self.log.len() == ENTRIES
     }
 
-    /// Lends the tables, if their lengths fit.
+    /// Lends the tables, if their sizes fit.
     pub fn lend(&mut self) -> Option<Lent<'_>> {
-        if !self.lengths_fit() {
+        if !self.sizes_fit() {
             return None;
         }
         Some(Lent {
             n: self.n,
+            full_slice: self.full_slice as u16,
             state: self.state.as_mut_slice().try_into().ok()?,
             policy: self.policy.as_mut_slice().try_into().ok()?,
             prio: self.prio.as_mut_slice().try_into().ok()?,
@@ -82,10 +104,10 @@ impl Tables {
         })
     }
 
-    /// A fresh machine, whatever the tables held: 0, or 1 and nothing is changed.
-    pub fn make_fresh(&mut self, record: &mut Record) -> u8 {
+    /// A fresh machine with the full slice that the tables have, whatever else they held; or nothing is changed.
+    pub fn make_fresh(&mut self, record: &mut Record) -> Made {
         let Some(t) = self.lend() else {
-            return 1;
+            return Made::REFUSED;
         };
         for column in [t.state, t.policy, t.prio, t.cpu] {
             column.fill(0);
@@ -97,6 +119,19 @@ impl Tables {
         t.flags.fill(0);
         t.log.fill([NOTHING; ENTRY]);
         *record = Record::fresh(t.n);
-        0
+        Made {
+            answer: 0,
+            full_slice: t.full_slice.into(),
+        }
+    }
+
+    /// The same with the default full slice, which they then have.
+    pub fn make_fresh_default(&mut self, record: &mut Record) -> Made {
+        let before = replace(&mut self.full_slice, SLICE_DEFAULT);
+        let made = self.make_fresh(record);
+        if made.answer != 0 {
+            self.full_slice = before;
+        }
+        made
     }
 }

@@ -3,18 +3,20 @@
 
 mod side;
 
-use binding::Event;
+use binding::{Event, Tables};
 use compare::call::Call;
-use compare::damage::{wrong_number, wrong_size};
+use compare::damage::{other_full_slice, wrong_number, wrong_size};
 use compare::events;
 use compare::generate::{chain, machine, Style};
 use compare::rng::Rng;
+use compare::tables::ticks_left;
 use side::Pair;
 
 #[test]
 fn well_formed() {
     let mut calls = 0;
     let mut moves = 0;
+    let mut refilled = 0;
     for case in 0.. {
         let mut rng = Rng::for_case(11, case);
         let style = Style::random(&mut rng);
@@ -25,6 +27,7 @@ fn well_formed() {
         let mut pair = Pair::new(plan.tables());
         for _ in 0..rng.pick(&[1, 4, 16, 64, 256]) {
             let call = events::call(&mut rng, &pair.ours, &style, &pool);
+            refilled += usize::from(refills(&pair.ours, call));
             moves += pair.call(call);
             calls += 1;
         }
@@ -33,6 +36,17 @@ fn well_formed() {
         }
     }
     assert!(moves > 5_000, "only {moves} moves");
+    assert!(refilled > 2_000, "only {refilled} slices ended");
+}
+
+/// Whether the call is a tick that ends a slice, of whatever length.
+fn refills(t: &Tables, call: Call) -> bool {
+    match call {
+        Call::Event(e) if e.kind == 7 && (e.who as usize) < t.n => {
+            ticks_left(t, e.who as usize) == Some(1)
+        }
+        _ => false,
+    }
 }
 
 #[test]
@@ -44,16 +58,20 @@ fn damaged() {
         let (plan, pool) = machine(&mut rng, &style);
         let good = plan.tables();
         let mut bad = good.clone();
-        for _ in 0..rng.pick(&[1, 1, 1, 2, 5]) {
+        for _ in 0..rng.pick(&[0, 1, 1, 2, 5]) {
             wrong_number(&mut rng, &good).apply(&mut bad);
         }
         if rng.percent(15) {
             wrong_size(&mut rng, &good).apply(&mut bad);
         }
+        if rng.percent(25) {
+            other_full_slice(&mut rng, &good).apply(&mut bad);
+        }
         let mut pair = Pair::new(bad);
         let event = events::plausible(&mut rng, &good, &style, &pool);
         let find = events::find(&mut rng, style.n);
-        for call in [Call::Check, find, Call::Event(event), Call::MakeFresh] {
+        let maker = rng.pick(&[Call::MakeFresh, Call::MakeFreshDefault]);
+        for call in [Call::Check, find, Call::Event(event), maker] {
             pair.call(call);
             calls += 1;
         }
@@ -78,7 +96,8 @@ fn settled_from_fresh() {
     for case in 0..128 {
         let (mut rng, style) = style_of(13, case);
         let (_, pool) = machine(&mut rng, &style);
-        let fresh = binding::Tables::fresh(style.n).expect("1 to 64 CPUs");
+        let fresh = Tables::fresh_with_slice(style.n, style.full_slice);
+        let fresh = fresh.expect("1 to 64 CPUs, 1 to 1000 ticks");
         live(&mut rng, &style, &pool, Pair::new(fresh), &mut seen, 1000);
     }
     assert!(seen.moved[3..=6].iter().all(|&times| times > 100));

@@ -15,7 +15,7 @@ and rows and levels, unless they are as they were.
   CPU 2  level  22  task 1 (20)  waiting: 2 (10)
 
 Task 1 of priority 20 runs on CPU 2; task 2 of priority 10 waits for it. An rr
-task also shows the ticks it has left: 1 (20, rr 100). A level is 0 for an idle
+task also shows the ticks it has left: 1 (20, rr 25). A level is 0 for an idle
 CPU, 1 for one with ordinary work only, and the priority that runs plus 2.
 
 exit status: 0  all is well
@@ -29,7 +29,8 @@ usage: qoriwesh examples [NAME ...]
 Runs the marked examples of document 01, or those named (K5 or k5), step by step
 through the library, and compares each value that document 01 gives. The fourth
 numbers of log entries are those of document 02, request L2, and K11's row is
-that of request L3.
+that of request L3. All name document 01's slice of 100 ticks, as request L7
+asks of K9.
 
 exit status: 0 if all are as document 01 says, 1 if one differs, 2 on an error.
 ";
@@ -43,8 +44,10 @@ told with its number, and no event is run.
 
 One command a line; '#' begins a comment; blank lines are skipped.
 
-  cpus N                         a fresh machine of N CPUs. Comes first; again,
-                                 it starts a new machine
+  cpus N [slice TICKS]           a fresh machine of N CPUs. Comes first; again,
+                                 it starts a new machine. A full slice of an rr
+                                 task has so many ticks, 1 to 1000; 25 if none
+                                 are named
   add TASK POLICY PRIORITY CPUS  a task, asleep. POLICY is fifo or rr (or a
                                  name or number of the kernel's)
   remove TASK                    a sleeping task goes
@@ -54,7 +57,9 @@ One command a line; '#' begins a comment; blank lines are skipped.
                                  runnable task goes behind its equals; lowered,
                                  before them
   affinity TASK CPUS             the CPUs that the task may use
-  tick CPU [TIMES]               the clock ticks, once or up to 10000 times
+  tick CPU [TIMES]               the clock ticks, once or up to 10000 times. An
+                                 rr task whose slice ends has a full one again
+                                 and goes behind its equals
   yield CPU                      the running task goes behind its equals
   ordinary CPU on|off            the CPU has ordinary work, or none
   event KIND WHO A B MASK        the five numbers as the library takes them

@@ -57,7 +57,7 @@ mod tests {
         let mut moves = 0;
         for line in parse(text.as_bytes()).unwrap() {
             match line.action {
-                Action::Machine(n) => tables = Tables::fresh(n).unwrap(),
+                Action::Machine { cpus, .. } => tables = Tables::fresh(cpus).unwrap(),
                 Action::Event { event, .. } => {
                     let outcome = tables.event(event);
                     assert_eq!(outcome.answer, 0, "line {}", line.number);

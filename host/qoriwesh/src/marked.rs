@@ -1,5 +1,6 @@
 //! The marked examples of document 01: events in the language of `explain`, and the values that it gives. The fourth
-//! numbers of the log are those of document 02, request L2, and K11's row is that of request L3.
+//! numbers of the log are those of document 02, request L2, and K11's row is that of request L3. Each names document 01's
+//! full slice, as request L7 asks of K9.
 
 use crate::show::Step;
 use crate::{render, words};
@@ -50,7 +51,7 @@ pub const EXAMPLES: &[Example] = &[
         title: "one task on one CPU",
         after: None,
         parts: &[Part(
-            "cpus 1\nadd 0 fifo 50 0\nwake 0",
+            "cpus 1 slice 100\nadd 0 fifo 50 0\nwake 0",
             &[Rows(&[&[0]]), Levels(&[52]), Moves(0)],
         )],
     },
@@ -59,7 +60,7 @@ pub const EXAMPLES: &[Example] = &[
         title: "the higher task takes the CPU, the lower one an idle CPU",
         after: None,
         parts: &[Part(
-            "cpus 2\nadd 0 fifo 50 0-1\nadd 1 fifo 40 0-1\nwake 1\nwake 0",
+            "cpus 2 slice 100\nadd 0 fifo 50 0-1\nadd 1 fifo 40 0-1\nwake 1\nwake 0",
             &[Log(&[[1, 0, 1, 0]]), Rows(&[&[0], &[1]]), Levels(&[52, 42])],
         )],
     },
@@ -84,7 +85,7 @@ pub const EXAMPLES: &[Example] = &[
         after: None,
         parts: &[
             Part(
-                "cpus 3\nadd 0 fifo 30 0-1\nadd 1 fifo 20 1-2\nadd 2 fifo 10 2\nadd 3 fifo 40 0\nwake 0",
+                "cpus 3 slice 100\nadd 0 fifo 30 0-1\nadd 1 fifo 20 1-2\nadd 2 fifo 10 2\nadd 3 fifo 40 0\nwake 0",
                 &[Moves(0)],
             ),
             Part("wake 1", &[Moves(0)]),
@@ -113,7 +114,7 @@ pub const EXAMPLES: &[Example] = &[
         title: "a lower task moves past a pinned one",
         after: None,
         parts: &[Part(
-            "cpus 2\nadd 0 fifo 60 0\nadd 1 fifo 50 0\nadd 2 fifo 40 0-1\nwake 0\nwake 1\nwake 2",
+            "cpus 2 slice 100\nadd 0 fifo 60 0\nadd 1 fifo 50 0\nadd 2 fifo 40 0-1\nwake 0\nwake 1\nwake 2",
             &[Moved { task: 2, to: 1 }],
         )],
     },
@@ -132,7 +133,7 @@ pub const EXAMPLES: &[Example] = &[
         after: None,
         parts: &[
             Part(
-                "cpus 1\nadd 0 rr 20 0\nadd 1 rr 20 0\nwake 0\nwake 1\ntick 0 99",
+                "cpus 1 slice 100\nadd 0 rr 20 0\nadd 1 rr 20 0\nwake 0\nwake 1\ntick 0 99",
                 &[Rows(&[&[0, 1]]), Slice { task: 0, ticks: 1 }],
             ),
             Part("tick 0", &[Rows(&[&[1, 0]]), Slice { task: 0, ticks: 100 }]),
@@ -144,7 +145,7 @@ pub const EXAMPLES: &[Example] = &[
         after: None,
         parts: &[
             Part(
-                "cpus 3\nordinary 1 on\nadd 0 fifo 50 0-2\nadd 1 fifo 40 0-2\nwake 0",
+                "cpus 3 slice 100\nordinary 1 on\nadd 0 fifo 50 0-2\nadd 1 fifo 40 0-2\nwake 0",
                 &[Rows(&[&[0], &[], &[]])],
             ),
             Part("wake 1", &[Moved { task: 1, to: 2 }]),
@@ -156,7 +157,7 @@ pub const EXAMPLES: &[Example] = &[
         after: None,
         parts: &[
             Part(
-                "cpus 1\nadd 0 fifo 50 0\nadd 1 fifo 30 0\nwake 0\nwake 1",
+                "cpus 1 slice 100\nadd 0 fifo 50 0\nadd 1 fifo 30 0\nwake 0\nwake 1",
                 &[Rows(&[&[0, 1]])],
             ),
             Part("prio 0 30", &[Rows(&[&[0, 1]])]),
@@ -167,10 +168,10 @@ pub const EXAMPLES: &[Example] = &[
         title: "what is refused, and what is just allowed",
         after: None,
         parts: &[
-            Part("cpus 0", &[Answer(1)]),
-            Part("cpus 65", &[Answer(1)]),
-            Part("cpus 64", &[Answer(0)]),
-            Part("cpus 2\nadd 512 fifo 50 0", &[Answer(4)]),
+            Part("cpus 0 slice 100", &[Answer(1)]),
+            Part("cpus 65 slice 100", &[Answer(1)]),
+            Part("cpus 64 slice 100", &[Answer(0)]),
+            Part("cpus 2 slice 100\nadd 512 fifo 50 0", &[Answer(4)]),
             Part("add 0 fifo 50 0\nwake 0\nwake 0", &[Answer(5)]),
             Part("add 1 fifo 0 0", &[Answer(7)]),
             Part("add 1 fifo 100 0", &[Answer(7)]),

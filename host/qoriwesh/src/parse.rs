@@ -15,8 +15,8 @@ const BYTE_ORDER_MARK: &[u8] = b"\xef\xbb\xbf";
 /// What a line asks for.
 #[derive(Clone, Copy, Debug, PartialEq, Eq)]
 pub enum Action {
-    /// A fresh machine of so many CPUs.
-    Machine(usize),
+    /// A fresh machine of so many CPUs, and the ticks of its full slice, if they are named.
+    Machine { cpus: usize, slice: Option<u32> },
     /// The same event, so many times.
     Event { event: Event, times: u32 },
 }
@@ -76,7 +76,7 @@ fn read_line(bytes: &[u8], machine: bool) -> Result<Option<Action>, String> {
         return Ok(None);
     };
     let action = read_action(command, rest)?;
-    if !machine && !matches!(action, Action::Machine(_)) {
+    if !machine && !matches!(action, Action::Machine { .. }) {
         return Err(format!(
             "expected 'cpus N' before the first event, found {}",
             quoted(command)
@@ -87,16 +87,24 @@ fn read_line(bytes: &[u8], machine: bool) -> Result<Option<Action>, String> {
 
 fn read_action(command: &str, rest: &[&str]) -> Result<Action, String> {
     match command {
-        "cpus" => {
-            let [n] = exactly(rest, "cpus N")?;
-            Ok(Action::Machine(number(n, "a number of CPUs")?))
-        }
+        "cpus" => read_machine(rest),
         "tick" => read_tick(rest),
         _ => Ok(Action::Event {
             event: read_event(command, rest)?,
             times: 1,
         }),
     }
+}
+
+fn read_machine(rest: &[&str]) -> Result<Action, String> {
+    let (cpus, slice) = match *rest {
+        [cpus] => (cpus, None),
+        [cpus, "slice", ticks] => (cpus, Some(number(ticks, "a number of ticks")?)),
+        [_, word, _] => return Err(format!("expected 'slice', found {}", quoted(word))),
+        _ => return Err(wrong_form("cpus N [slice TICKS]", rest)),
+    };
+    let cpus = number(cpus, "a number of CPUs")?;
+    Ok(Action::Machine { cpus, slice })
 }
 
 fn read_tick(rest: &[&str]) -> Result<Action, String> {
@@ -330,10 +338,21 @@ mod tests {
         is("add 0 fifo 0 0x0", 1, 0, 1, 0, 0);
         is("yield 4294967295", 8, u32::MAX, 0, 0, 0);
         is("ordinary 0 2", 9, 0, 0, 2, 0);
-        for n in [0, 65, usize::MAX] {
-            let text = format!("cpus {n}");
-            let action = Action::Machine(n);
-            assert_eq!(parse(text.as_bytes()), Ok(vec![Line { number: 1, action }]));
+        for cpus in [0, 65, usize::MAX] {
+            let slice = None;
+            let action = Action::Machine { cpus, slice };
+            assert_eq!(one(&format!("cpus {cpus}")), Ok(action));
+        }
+    }
+
+    #[test]
+    fn a_machine_may_name_its_slice() {
+        for ticks in [0, 1, 25, 1000, 1001, 65561, u32::MAX] {
+            let action = Action::Machine {
+                cpus: 2,
+                slice: Some(ticks),
+            };
+            assert_eq!(one(&format!("cpus 2 slice {ticks}")), Ok(action));
         }
     }
 
@@ -342,7 +361,14 @@ mod tests {
         for (line, message) in [
             ("wake", "expected 'wake TASK', found nothing after 'wake'"),
             ("wake 1 2", "expected 'wake TASK', found 2 words after 'wake'"),
-            ("cpus", "expected 'cpus N', found nothing after 'cpus'"),
+            ("cpus", "expected 'cpus N [slice TICKS]', found nothing after 'cpus'"),
+            ("cpus 2 slice", "expected 'cpus N [slice TICKS]', found 2 words after 'cpus'"),
+            ("cpus 2 slice 25 ticks", "expected 'cpus N [slice TICKS]', found 4 words after 'cpus'"),
+            ("cpus 2 ticks 25", "expected 'slice', found 'ticks'"),
+            ("cpus two slice 25", "expected a number of CPUs, found 'two'"),
+            ("cpus 2 slice long", "expected a number of ticks, found 'long'"),
+            ("cpus 2 slice -1", "expected a number of ticks, found '-1'"),
+            ("cpus 2 slice 4294967296", "expected a number of ticks of 32 bits, found '4294967296'"),
             ("wake x", "expected a task number, found 'x'"),
             ("wake -1", "expected a task number, found '-1'"),
             ("wake +1", "expected a task number, found '+1'"),

@@ -4,7 +4,7 @@ use crate::cycle::Cycle;
 use crate::log::{self, Move};
 use crate::parse::Action;
 use crate::{render, words};
-use binding::{Event, Outcome, Tables};
+use binding::{Event, Made, Outcome, Tables, SLICE_DEFAULT};
 use std::io::{self, Write};
 
 /// Where an event's answer begins, if it stands on the event's line.
@@ -87,7 +87,7 @@ impl<'a> Show<'a> {
     pub fn action(&mut self, number: usize, action: Action) -> Result<Step, Failure> {
         let cycle = self.cycle.take();
         match action {
-            Action::Machine(n) => self.machine(number, n),
+            Action::Machine { cpus, slice } => self.machine(number, cpus, slice),
             Action::Event { event, times: 1 } => self.event(number, event),
             Action::Event { event, times } => {
                 let cycle = cycle.filter(|cycle| cycle.is_of(event));
@@ -98,12 +98,12 @@ impl<'a> Show<'a> {
     }
 
     /// Makes a fresh machine. If that is refused, the earlier one stays.
-    fn machine(&mut self, number: usize, n: usize) -> Result<Step, Failure> {
-        let mut fresh = Tables::zeroed(n);
-        let answer = fresh.make_fresh();
-        let title = words::machine(n);
+    fn machine(&mut self, number: usize, n: usize, slice: Option<u32>) -> Result<Step, Failure> {
+        let (fresh, made) = make(n, slice);
+        let answer = made.answer;
         if answer == 0 {
             self.shown = render::state(&fresh);
+            let title = words::machine(n, Some(made.full_slice));
             self.titled(number, &title, "made, all idle")?;
         } else {
             self.tally.refused += 1;
@@ -111,7 +111,8 @@ impl<'a> Show<'a> {
                 true => "the earlier machine stays as it was",
                 false => "there is no machine",
             };
-            let why = words::refused_machine(answer, n);
+            let why = words::refused_machine(answer, &fresh);
+            let title = words::machine(n, slice);
             self.titled(number, &title, &format!("{why}; {stays}"))?;
         }
         if answer == 0 || !self.made {
@@ -143,10 +144,10 @@ impl<'a> Show<'a> {
         let mut quiet = 0;
         let mut last = Step::default();
         loop {
-            let rounds = left - cycle.without_rounds(left);
-            self.tally.accepted += rounds;
-            quiet += rounds;
-            left -= rounds;
+            let skipped = cycle.skip(left, &mut self.tables);
+            self.tally.accepted += skipped;
+            quiet += skipped;
+            left -= skipped;
             if left == 0 {
                 break;
             }
@@ -249,6 +250,17 @@ impl<'a> Show<'a> {
     }
 }
 
+/// Tables in which a machine was made, or refused: then they are none, and have its numbers.
+pub fn make(n: usize, slice: Option<u32>) -> (Tables, Made) {
+    let mut tables = Tables::zeroed(n);
+    tables.full_slice = slice.unwrap_or(SLICE_DEFAULT);
+    let made = match slice {
+        Some(_) => tables.make_fresh(),
+        None => tables.make_fresh_default(),
+    };
+    (tables, made)
+}
+
 /// The outcome with its moves. That a refusal changes nothing is looked at.
 fn judged(before: &Tables, e: Event, after: &Tables, outcome: Outcome) -> Result<Step, String> {
     let Outcome { answer, moves } = outcome;
@@ -289,6 +301,29 @@ mod tests {
         assert_eq!((tally.accepted, tally.refused), (2, 1));
     }
 
+    /// Its slice stays too.
+    #[test]
+    fn a_refused_slice_leaves_the_earlier_machine() {
+        let (text, tally) = told("cpus 2 slice 7\ncpus 3 slice 1001\nadd 0 rr 9 1\nwake 0");
+        assert!(text.contains("a machine of 2 CPUs, slice 7 "), "{text}");
+        let refused = "a slice has 1 to 1000 ticks, not 1001; the earlier machine";
+        assert!(text.contains(refused), "{text}");
+        assert!(
+            text.contains("CPU 1  level  11  task 0 (9, rr 7)"),
+            "{text}"
+        );
+        assert_eq!((tally.accepted, tally.refused), (2, 1));
+    }
+
+    /// 25 ticks, if none are named.
+    #[test]
+    fn a_machine_is_shown_with_its_slice() {
+        let (text, _) = told("cpus 1\nadd 0 rr 9 0\nwake 0\ncpus 64 slice 1000");
+        assert!(text.contains("a machine of 1 CPU, slice 25 "), "{text}");
+        assert!(text.contains("task 0 (9, rr 25)"), "{text}");
+        assert!(text.contains("a machine of 64 CPUs, slice 1000 "), "{text}");
+    }
+
     #[test]
     fn without_a_machine_every_event_is_refused_with_1() {
         let (text, tally) = told("cpus 0\nwake 0\ncpus 1\nadd 0 fifo 9 0");
@@ -300,24 +335,33 @@ mod tests {
     /// Two rr tasks of CPU 0 take turns; task 0, put behind, may go to CPU 1 after the flag is gone.
     #[test]
     fn a_tick_that_moves_is_shown_by_itself() {
-        let (text, tally) = told(
-            "cpus 2\nadd 0 rr 9 0-1\nadd 1 rr 9 0\nadd 2 fifo 5 1\nwake 0\nwake 1\nwake 2\n\
-             tick 0 105",
-        );
-        assert!(text.contains("tick on CPU 0, 99 times"), "{text}");
-        assert!(
-            text.contains("move 1  task 0 (9)  CPU 0 -> 1  over priority 5  level 7 -> 11"),
-            "{text}"
-        );
-        assert!(text.contains("tick on CPU 0, 5 times"), "{text}");
-        assert_eq!((tally.accepted, tally.moves), (6 + 105, 1));
+        let tasks = "add 0 rr 9 0-1\nadd 1 rr 9 0\nadd 2 fifo 5 1\nwake 0\nwake 1\nwake 2";
+        for (machine, full_slice) in [("cpus 2", 25), ("cpus 2 slice 100", 100)] {
+            let ticks = full_slice + 5;
+            let (text, tally) = told(&format!("{machine}\n{tasks}\ntick 0 {ticks}"));
+            let before = format!("tick on CPU 0, {} times", full_slice - 1);
+            assert!(text.contains(&before), "{text}");
+            assert!(
+                text.contains("move 1  task 0 (9)  CPU 0 -> 1  over priority 5  level 7 -> 11"),
+                "{text}"
+            );
+            assert!(text.contains("tick on CPU 0, 5 times"), "{text}");
+            assert_eq!((tally.accepted, tally.moves), (6 + ticks, 1));
+        }
     }
 
-    /// Of 9,000 ticks on three rr tasks, of which one begins with half a slice, most are not run.
+    /// Of 9,000 ticks on three rr tasks, of which one begins with a part of its slice, most are not run.
     #[test]
     fn many_ticks_end_where_as_many_single_ones_do() {
-        let tasks = "cpus 2\nadd 0 rr 9 0\nadd 1 rr 9 0\nadd 2 rr 9 0\nadd 3 fifo 5 1\n\
-                     wake 0\nwake 1\nwake 2\nwake 3\ntick 0 50\nyield 0\n";
+        for full_slice in [1, 2, 25, 100, 1000] {
+            many_ticks(&format!(
+                "cpus 2 slice {full_slice}\nadd 0 rr 9 0\nadd 1 rr 9 0\nadd 2 rr 9 0\nadd 3 fifo 5 1\n\
+                 wake 0\nwake 1\nwake 2\nwake 3\ntick 0 50\nyield 0\n"
+            ));
+        }
+    }
+
+    fn many_ticks(tasks: &str) {
         let end = |ticks: &str| {
             let mut out = Vec::new();
             let mut show = Show::new(&mut out);
@@ -335,6 +379,9 @@ mod tests {
             let other = format!("tick 0 {half}\ntick 1 500\ntick 0 {}\n", times - half);
             assert_eq!(end(&other).0, single.0, "{times} with others between");
         }
+        // A round may be longer than what a line asks for.
+        let single = end(&"tick 0\n".repeat(13 * 700));
+        assert_eq!(end(&"tick 0 700\n".repeat(13)), single, "13 lines");
     }
 
     #[test]

@@ -1,7 +1,7 @@
 //! Events, answers and CPUs in words.
 
 use crate::cpulist;
-use binding::{Event, Tables, TASKS};
+use binding::{Event, Tables, CPUS, SLICE_MAX, SLICE_MIN, TASKS};
 
 /// `CPU 3`, `CPUs 0-1` or `no CPU`.
 fn cpus(mask: u64) -> String {
@@ -60,11 +60,15 @@ pub fn events(e: Event, times: u64) -> String {
     }
 }
 
-/// `a machine of 3 CPUs`.
-pub fn machine(n: usize) -> String {
-    match n {
+/// `a machine of 3 CPUs, slice 25`; without the slice, if it is not known.
+pub fn machine(n: usize, slice: Option<u32>) -> String {
+    let cpus = match n {
         1 => "a machine of 1 CPU".to_string(),
         _ => format!("a machine of {n} CPUs"),
+    };
+    match slice {
+        Some(ticks) => format!("{cpus}, slice {ticks}"),
+        None => cpus,
     }
 }
 
@@ -86,18 +90,29 @@ pub fn refused(answer: u8, e: Event, tables: &Tables) -> String {
     format!("refused ({answer}): {}", reason(answer, e, tables))
 }
 
-/// The refusal of a machine of `n` CPUs.
-pub fn refused_machine(answer: u8, n: usize) -> String {
-    format!("refused ({answer}): {}", no_machine(n))
+/// The refusal of a machine of these tables.
+pub fn refused_machine(answer: u8, tables: &Tables) -> String {
+    format!("refused ({answer}): {}", no_machine(tables))
 }
 
-fn no_machine(n: usize) -> String {
-    format!("a machine has 1 to 64 CPUs, not {n}")
+/// Which of the machine's two numbers is out of range, or that both are.
+fn no_machine(tables: &Tables) -> String {
+    let (n, ticks) = (tables.n, tables.full_slice);
+    let mut wrong = Vec::new();
+    if !(1..=CPUS).contains(&n) {
+        wrong.push(format!("a machine has 1 to {CPUS} CPUs, not {n}"));
+    }
+    if !(SLICE_MIN..=SLICE_MAX).contains(&ticks) {
+        wrong.push(format!(
+            "a slice has {SLICE_MIN} to {SLICE_MAX} ticks, not {ticks}"
+        ));
+    }
+    wrong.join(", and ")
 }
 
 fn reason(answer: u8, e: Event, tables: &Tables) -> String {
     match answer {
-        1 => no_machine(tables.n),
+        1 => no_machine(tables),
         2 => "the tables are not well-formed".to_string(),
         3 => format!("there is no event of kind {}", e.kind),
         4 if e.kind <= 6 => format!("tasks are 0 to {}, not {}", TASKS - 1, e.who),
@@ -146,6 +161,7 @@ fn wrong_mask(mask: u64, n: usize) -> String {
 mod tests {
     use super::*;
     use crate::parse::{parse, Action};
+    use crate::show;
 
     /// Each refusal, on a machine of two CPUs with task 0 runnable and task 1 asleep.
     #[test]
@@ -192,10 +208,21 @@ mod tests {
             let text = format!("cpus 2\nadd 0 fifo 9 0\nadd 1 rr 9 0\nwake 0\n{line}");
             assert_eq!(last_answer(&text), expected, "{line}");
         }
-        assert_eq!(
-            last_answer("cpus 65\nwake 0"),
-            "refused (1): a machine has 1 to 64 CPUs, not 65"
-        );
+    }
+
+    /// Without a machine, which of its numbers was wrong.
+    #[test]
+    fn a_machine_that_is_not_there_says_why() {
+        let cpus = "refused (1): a machine has 1 to 64 CPUs, not 65";
+        let slice = |ticks| format!("a slice has 1 to 1000 ticks, not {ticks}");
+        assert_eq!(last_answer("cpus 65\nwake 0"), cpus);
+        assert_eq!(last_answer("cpus 65 slice 1000\nwake 0"), cpus);
+        for ticks in [0, 1001, 65561] {
+            let text = format!("cpus 64 slice {ticks}\nwake 0");
+            assert_eq!(last_answer(&text), format!("refused (1): {}", slice(ticks)));
+            let text = format!("cpus 65 slice {ticks}\nwake 0");
+            assert_eq!(last_answer(&text), format!("{cpus}, and {}", slice(ticks)));
+        }
     }
 
     fn last_answer(text: &str) -> String {
@@ -203,10 +230,7 @@ mod tests {
         let mut last = String::new();
         for line in parse(text.as_bytes()).unwrap() {
             match line.action {
-                Action::Machine(n) => {
-                    tables = Tables::zeroed(n);
-                    tables.make_fresh();
-                }
+                Action::Machine { cpus, slice } => (tables, _) = show::make(cpus, slice),
                 Action::Event { event, .. } => {
                     let outcome = tables.event(event);
                     last = match outcome.answer {

@@ -142,6 +142,20 @@ fn a_refused_event_ends_with_1_and_the_next_follows() {
 }
 
 #[test]
+fn a_refused_slice_ends_with_1_and_a_wrong_one_with_2() {
+    let ended = run(&["explain"], b"cpus 1 slice 1001\n");
+    assert_eq!((ended.status, ended.err.as_str()), (1, ""));
+    assert!(ended
+        .out
+        .contains("refused (1): a slice has 1 to 1000 ticks, not 1001; there is no machine"));
+    let ended = run(&["explain"], b"cpus 1 slice 4294967296\n");
+    assert_eq!((ended.status, ended.out.as_str()), (2, ""));
+    assert!(ended
+        .err
+        .contains("<stdin>:1: expected a number of ticks of 32 bits, found '4294967296'\n"));
+}
+
+#[test]
 fn wrong_lines_are_told_and_nothing_is_run() {
     let ended = run(&["explain"], b"cpus 2\nwake\n\nadd 0 fifo x 0\n");
     assert_eq!((ended.status, ended.out.as_str()), (2, ""));
@@ -207,20 +221,28 @@ fn a_list_of_many_cpus_is_read_soon() {
     );
 }
 
-/// On an idle CPU, under a fifo task, and under rr tasks that take turns.
+/// On an idle CPU, under a fifo task, and under rr tasks that take turns: with the shortest slices, and with the longest,
+/// of which a round has more ticks than a line. One of them yields a part of its slice, which does not come again.
 #[test]
 fn many_ticks_are_run_soon() {
-    let mut tasks = "cpus 64\nadd 0 fifo 50 1\nwake 0\n".to_string();
-    for task in 1..11 {
+    let mut tasks = "add 0 fifo 50 1\nwake 0\n".to_string();
+    for task in 1..12 {
         tasks += &format!("add {task} rr 50 2\nwake {task}\n");
     }
-    for cpu in 0..3 {
+    tasks += "tick 2 5\nyield 2\n";
+    for (machine, cpu) in [
+        ("cpus 64", 0),
+        ("cpus 64", 1),
+        ("cpus 64", 2),
+        ("cpus 64 slice 1", 2),
+        ("cpus 64 slice 1000", 2),
+    ] {
         let ticks = format!("tick {cpu} 10000\n").repeat(2000);
-        let ended = run_soon(&format!("{tasks}{ticks}"));
+        let ended = run_soon(&format!("{machine}\n{tasks}{ticks}"));
         assert_eq!((ended.status, ended.err.as_str()), (0, ""));
         assert!(ended
             .out
-            .ends_with("\n20000022 accepted, 0 refused, 0 moves in all\n"));
+            .ends_with("\n20000030 accepted, 0 refused, 0 moves in all\n"));
     }
 }
 

@@ -1,12 +1,12 @@
-//! The four public entries.
+//! The public entries.
 
 use crate::effect::own_effect;
 use crate::machine::Machine;
 use crate::migrate::{self, settle, Step};
 use crate::mutant::Mutant;
 use crate::record::Record;
-use crate::refuse::refusal;
-use crate::tables::{mask_right, Event, Tables, ENTRY, INVALID, NOTHING};
+use crate::refuse::{refusal, wrong_size};
+use crate::tables::{mask_right, Event, Tables, DEFAULT_SLICE, ENTRY, INVALID, NOTHING};
 use crate::wellformed::well_formed;
 
 /// "Accepted is 0 with the number of moves [...] A refusal reports 0 moves"
@@ -24,27 +24,64 @@ pub struct Found {
     pub mask: u64,
 }
 
+/// The full slice is "given to the maker, handed back by it (25 by a second maker told none, 0 on a refusal)".
+#[derive(Clone, Copy, Debug, PartialEq, Eq)]
+pub struct Made {
+    pub answer: u8,
+    pub full_slice: u32,
+}
+
 /// "Making a fresh machine refuses only with 1 [...] Old table contents don't matter to the fresh maker."
-pub fn make_fresh(t: &mut Tables, m: Mutant) -> u8 {
-    if !t.sizes_right() {
-        return 1;
+pub fn make_fresh(t: &mut Tables, m: Mutant) -> Made {
+    let given = t.full_slice;
+    let refused = |answer| Made {
+        answer,
+        full_slice: match m {
+            Mutant::RefusalHandsBackSlice => given,
+            _ => 0,
+        },
+    };
+    if wrong_size(t, m) {
+        return refused(1);
     }
-    Machine::fresh(t.n).write(t, m);
+    let Some(full_slice) = t.full_slice(m) else {
+        return refused(2); // With an error alone.
+    };
+    Machine::fresh(t.n, full_slice).write(t, m);
     if m != Mutant::FreshKeepsLog {
         t.log.fill(NOTHING);
     }
     if m == Mutant::FreshMissingIdle {
         t.levels.fill(0);
     }
-    0
+    Made {
+        answer: 0,
+        full_slice: full_slice.into(),
+    }
+}
+
+/// The second maker, told no full slice: 25 is the machine's then. On a refusal the machine's stays.
+pub fn make_fresh_default(t: &mut Tables, m: Mutant) -> Made {
+    let before = t.full_slice;
+    t.full_slice = match m {
+        Mutant::DefaultHundred => 100,
+        _ => DEFAULT_SLICE,
+    };
+    let made = make_fresh(t, m);
+    if made.answer != 0 {
+        t.full_slice = before;
+    }
+    made
 }
 
 /// "the public checker answers 0, 1 or 2 and changes nothing"
 pub fn check(t: &Tables, m: Mutant) -> u8 {
-    match (t.sizes_right(), t.sizes_right() && well_formed(t, m)) {
-        (false, _) => 1,
-        (true, false) => 2,
-        (true, true) => 0,
+    if wrong_size(t, m) {
+        return 1;
+    }
+    match well_formed(t, m) {
+        true => 0,
+        false => 2,
     }
 }
 
@@ -57,7 +94,7 @@ pub fn event(t: &mut Tables, e: Event, m: Mutant) -> Outcome {
         }
         return Outcome { answer, moves: 0 };
     }
-    let mut machine = Machine::read(t);
+    let mut machine = Machine::read(t, m);
     own_effect(&mut machine, e, m);
     let steps = if stops(t, &machine, e, m) {
         Vec::new()
@@ -75,7 +112,7 @@ pub fn event(t: &mut Tables, e: Event, m: Mutant) -> Outcome {
 /// The errors of taking no step at all after some events; `t` is as before the event. The paper's answer is no.
 fn stops(t: &Tables, machine: &Machine, e: Event, m: Mutant) -> bool {
     match m {
-        Mutant::NoStepAfterNothing => machine.tasks == Machine::read(t).tasks,
+        Mutant::NoStepAfterNothing => machine.tasks == Machine::read(t, m).tasks,
         Mutant::NoStepAfterLowered => e.kind == 5 && e.b < u32::from(t.prio[e.who as usize]),
         _ => false,
     }
@@ -83,7 +120,7 @@ fn stops(t: &Tables, machine: &Machine, e: Event, m: Mutant) -> bool {
 
 /// "A machine need not be settled (no task movable) to be well-formed": whether it is. Of well-formed tables.
 pub fn settled(t: &Tables) -> bool {
-    migrate::settled(&Machine::read(t))
+    migrate::settled(&Machine::read(t, Mutant::None))
 }
 
 /// "Step i, from 0, is entry i of the log"; "log entries from that number on stay as they were"
@@ -139,7 +176,8 @@ pub fn find(t: &Tables, level: u32, mask: u64, m: Mutant) -> Found {
         },
         mask: 0,
     };
-    if !(t.cpus_right() && t.record_sizes_right()) {
+    let wrong_slice = m == Mutant::FinderChecksSlice && t.full_slice(m).is_none();
+    if wrong_slice || !(t.cpus_right() && t.record_sizes_right()) {
         return nothing(1);
     }
     let record = Record::lent(t);

@@ -25,17 +25,21 @@ fn lowest_allowed(mask: u64) -> usize {
     cpus_of(mask)[0]
 }
 
-/// "asleep, CPU the lowest-numbered allowed, slice 100"
+/// "asleep, CPU the lowest-numbered allowed", and the full slice: "kinds 1 and 7 use that number"
 fn add(machine: &mut Machine, e: Event, m: Mutant) {
     let cpu = match m {
         Mutant::AddOnCpuZero => 0,
         _ => lowest_allowed(e.mask),
     };
+    let slice = match m {
+        Mutant::AddGivesHundred => 100,
+        _ => machine.full_slice,
+    };
     let task = Task {
         policy: e.a as u8,
         prio: e.b as u8,
         cpu,
-        slice: 100,
+        slice,
         mask: e.mask,
         arrival: None,
     };
@@ -50,10 +54,10 @@ fn remove(machine: &mut Machine, id: u16) {
 /// "runnable; enters the row of its CPU if allowed, else of the lowest-numbered allowed CPU, which becomes its
 /// CPU; slice kept"
 fn wake(machine: &mut Machine, id: u16, m: Mutant) {
-    let task = machine.task(id);
     if m == Mutant::WakeSliceRefilled {
-        task.slice = 100;
+        machine.refill(id);
     }
+    let task = machine.task(id);
     let stays = allows(task.mask, task.cpu) && m != Mutant::WakeForgetsCpu;
     let cpu = match stays || m == Mutant::WakeIgnoresMask {
         true => task.cpu,
@@ -64,10 +68,9 @@ fn wake(machine: &mut Machine, id: u16, m: Mutant) {
 
 /// "leaves its row; CPU and slice kept"
 fn sleep(machine: &mut Machine, id: u16, m: Mutant) {
-    let task = machine.task(id);
-    task.arrival = None;
+    machine.task(id).arrival = None;
     if m == Mutant::SleepSliceRefilled {
-        task.slice = 100;
+        machine.refill(id);
     }
 }
 
@@ -108,8 +111,8 @@ fn set_mask(machine: &mut Machine, id: u16, mask: u64, m: Mutant) {
     }
 }
 
-/// "first task RR: slice less 1; at 0 it becomes 100 and the task leaves and enters again. First task FIFO or row
-/// empty: nothing"
+/// "first task RR: slice less 1; at 0 it becomes" the full slice "and the task leaves and enters again. First task FIFO or
+/// row empty: nothing"
 fn tick(machine: &mut Machine, cpu: usize, m: Mutant) {
     let Some(&id) = machine.rows()[cpu].first() else {
         return;
@@ -119,7 +122,11 @@ fn tick(machine: &mut Machine, cpu: usize, m: Mutant) {
         return;
     }
     let ended = task.slice == 1 || (m == Mutant::TickEarly && task.slice == 2);
-    task.slice = if ended { 100 } else { task.slice - 1 };
+    match (ended, m) {
+        (false, _) => task.slice -= 1,
+        (true, Mutant::TickRefillsHundred) => task.slice = 100,
+        (true, _) => machine.refill(id),
+    }
     if ended && m != Mutant::TickKeepsPlace {
         machine.enter(id, cpu);
     }
@@ -129,7 +136,7 @@ fn tick(machine: &mut Machine, cpu: usize, m: Mutant) {
 fn yields(machine: &mut Machine, cpu: usize, m: Mutant) {
     let id = machine.rows()[cpu][0];
     if m == Mutant::YieldSliceRefilled {
-        machine.task(id).slice = 100;
+        machine.refill(id);
     }
     match m {
         Mutant::YieldBeforeEquals => machine.enter_before_equals(id, cpu),

@@ -15,7 +15,7 @@ mod refuse;
 mod tables;
 mod wellformed;
 
-pub use api::{check, event, find, make_fresh, settled, Found, Outcome};
+pub use api::{check, event, find, make_fresh, make_fresh_default, settled, Found, Made, Outcome};
 pub use machine::{Machine, Task};
 pub use mutant::Mutant;
 pub use record::Record;

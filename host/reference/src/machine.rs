@@ -20,6 +20,8 @@ pub struct Task {
 #[derive(Clone, Debug)]
 pub struct Machine {
     pub n: usize,
+    /// "The full slice becomes a number of the machine"
+    pub full_slice: u16,
     /// The tasks of the places that are not free.
     pub tasks: BTreeMap<u16, Task>,
     /// "An ordinary-work flag per CPU"
@@ -37,9 +39,10 @@ pub(crate) fn level_of_prio(prio: u8) -> u8 {
 
 impl Machine {
     /// "A fresh machine has all places free, rows empty, flags 0"
-    pub fn fresh(n: usize) -> Machine {
+    pub fn fresh(n: usize, full_slice: u16) -> Machine {
         Machine {
             n,
+            full_slice,
             tasks: BTreeMap::new(),
             ordinary: vec![false; n],
             clock: 0,
@@ -48,8 +51,9 @@ impl Machine {
     }
 
     /// The machine of well-formed tables. Those that stand earlier in a row have come earlier.
-    pub fn read(t: &Tables) -> Machine {
-        let mut machine = Machine::fresh(t.n);
+    pub fn read(t: &Tables, m: Mutant) -> Machine {
+        let full_slice = t.full_slice(m).expect("a full slice in range");
+        let mut machine = Machine::fresh(t.n, full_slice);
         machine.ordinary = t.flags.iter().map(|&flag| flag == 1).collect();
         machine.clock = t.rows.len() as i64 + 1;
         for i in (0..TASKS).filter(|&i| t.state[i] != 0) {
@@ -73,6 +77,12 @@ impl Machine {
 
     pub fn task(&mut self, id: u16) -> &mut Task {
         self.tasks.get_mut(&id).expect("the place has a task")
+    }
+
+    /// The task has a full slice again.
+    pub(crate) fn refill(&mut self, id: u16) {
+        let full_slice = self.full_slice;
+        self.task(id).slice = full_slice;
     }
 
     /// "Entering a row means standing behind every task of the same or a higher priority and before all lower

@@ -43,7 +43,7 @@ pub(crate) fn settled(machine: &Machine) -> bool {
 fn take(machine: &mut Machine, step: Step, m: Mutant) {
     machine.enter(step.task, step.to);
     if m == Mutant::MoverSliceRefilled {
-        machine.task(step.task).slice = 100;
+        machine.refill(step.task);
     }
 }
 

@@ -82,6 +82,8 @@ mutants! {
     TickKeepsPlace,
     /// a slice ends one tick early
     TickEarly,
+    /// a slice that ends becomes 100, whatever the full slice is
+    TickRefillsHundred,
     /// FIFO tasks use up slices
     TickCountsFifo,
     /// the unchanged priority sends a runnable task behind its equals
@@ -100,6 +102,8 @@ mutants! {
     MaskMovesSleeper,
     /// an added task has CPU 0
     AddOnCpuZero,
+    /// an added task has 100 ticks, whatever the full slice is
+    AddGivesHundred,
     /// a removed task's slice stays in its column
     RemoveLeavesSlice,
     /// ordinary work does not raise an empty row's level
@@ -124,12 +128,28 @@ mutants! {
     FreshKeepsLog,
     /// a fresh machine's missing CPUs have level 0
     FreshMissingIdle,
+    /// the maker that is told no full slice gives 100
+    DefaultHundred,
+    /// a refused maker hands back the full slice
+    RefusalHandsBackSlice,
+    /// a full slice of 0 passes
+    FullSliceZeroPasses,
+    /// a full slice of 1001 passes
+    FullSlicePastPasses,
+    /// of the full slice the lower 16 bits are read
+    FullSliceCut,
+    /// a full slice out of range is refused with 2
+    FullSliceRefusedWithTwo,
     /// a free place may have numbers in its columns (W1)
     FreeColumnsUnchecked,
     /// a sleeper's CPU must be allowed (W2)
     SleeperCpuAllowed,
     /// a slice of 0 passes (W2)
     SliceZeroPasses,
+    /// slices of 1 to 100 pass, whatever the full slice is (W2)
+    SliceToHundred,
+    /// a slice of one more than the full slice passes (W2)
+    SlicePastFullPasses,
     /// unused places of a row may hold anything (W3)
     TailUnchecked,
     /// a runnable task's CPU need not be allowed (W4)
@@ -146,6 +166,8 @@ mutants! {
     MissingCpusUnchecked,
     /// a record that is consistent in itself passes for any rows (W6)
     LevelsUnrelated,
+    /// the finder refuses a full slice out of range, which it is not asked with
+    FinderChecksSlice,
     /// the finder takes the asked level too
     FinderTakesEqual,
     /// the finder answers all CPUs of the level, allowed or not

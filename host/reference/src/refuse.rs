@@ -24,7 +24,7 @@ pub(crate) fn refusal(t: &Tables, e: Event, m: Mutant) -> u8 {
 fn applies(number: u8, t: &Tables, e: Event, m: Mutant) -> bool {
     let unused = m == Mutant::UnusedChecked;
     match number {
-        1 => !t.sizes_right(),
+        1 => wrong_size(t, m),
         2 => !well_formed(t, m),
         3 => !(1..=9).contains(&e.kind),
         4 => no_such_number(t, e),
@@ -35,6 +35,13 @@ fn applies(number: u8, t: &Tables, e: Event, m: Mutant) -> bool {
         9 => e.kind == 8 && t.counts[e.who as usize] == 0,
         _ => unreachable!("refusals are 1 to 9"),
     }
+}
+
+/// "N is 0 or over 64, or a lent table has another length than above"; of the full slice, "one out of range is refused with
+/// 1"
+pub(crate) fn wrong_size(t: &Tables, m: Mutant) -> bool {
+    let wrong_slice = t.full_slice(m).is_none() && m != Mutant::FullSliceRefusedWithTwo;
+    wrong_slice || !t.sizes_right()
 }
 
 /// "task number 512 or more (kinds 1 to 6), CPU number N or more (7 to 9)"

@@ -1,5 +1,7 @@
 //! The tables as lent, of any length, and the lengths they should have.
 
+use crate::mutant::Mutant;
+
 pub const TASKS: usize = 512;
 pub const CPUS: usize = 64;
 pub const LEVELS: usize = 102;
@@ -13,6 +15,8 @@ pub const LOG: usize = ENTRIES * ENTRY;
 pub const NOTHING: u16 = 65535;
 /// "INVALID is 255, held by CPU places N and up, in no mask."
 pub const INVALID: u8 = 255;
+/// "25 by a second maker told none"
+pub const DEFAULT_SLICE: u32 = 25;
 
 /// "An event is five numbers: kind, who, a, b, mask."
 #[derive(Clone, Copy, Debug, PartialEq, Eq)]
@@ -24,10 +28,12 @@ pub struct Event {
     pub mask: u64,
 }
 
-/// N and the fourteen tables.
+/// N, the full slice and the fourteen tables.
 #[derive(Clone, Debug, PartialEq, Eq)]
 pub struct Tables {
     pub n: usize,
+    /// "The full slice becomes a number of the machine": any number here, as it is handed in.
+    pub full_slice: u32,
     pub state: Vec<u8>,
     pub policy: Vec<u8>,
     pub prio: Vec<u8>,
@@ -46,9 +52,10 @@ pub struct Tables {
 
 impl Tables {
     /// Tables of the right lengths for `n` CPUs, with nothing sensible in them. `n` is 1 to 64.
-    pub fn blank(n: usize) -> Tables {
+    pub fn blank(n: usize, full_slice: u32) -> Tables {
         Tables {
             n,
+            full_slice,
             state: vec![7; TASKS],
             policy: vec![7; TASKS],
             prio: vec![7; TASKS],
@@ -96,6 +103,20 @@ impl Tables {
             && self.flags.len() == self.n
             && self.log.len() == LOG
             && self.record_sizes_right()
+    }
+
+    /// "a number of the machine, 1 to 1,000"; none if it is out of range.
+    pub(crate) fn full_slice(&self, m: Mutant) -> Option<u16> {
+        let (least, most) = match m {
+            Mutant::FullSliceZeroPasses => (0, 1000),
+            Mutant::FullSlicePastPasses => (1, 1001),
+            _ => (1, 1000),
+        };
+        let number = match m {
+            Mutant::FullSliceCut => self.full_slice % 65536,
+            _ => self.full_slice,
+        };
+        (least..=most).contains(&number).then_some(number as u16)
     }
 
     /// "row c begins at place 512 times c"; all its 512 places. Of tables of the right lengths.

@@ -29,16 +29,24 @@ fn columns_zero(t: &Tables, i: usize) -> bool {
     columns.iter().all(|&number| number == 0)
 }
 
-/// "Otherwise policy 1 or 2, priority 1 to 99, CPU below N, slice 1 to 100, mask not 0 and without bits at N or
-/// above. A sleeper's CPU need not be allowed."
+/// "Otherwise policy 1 or 2, priority 1 to 99, CPU below N, slice 1 to" the full slice, "mask not 0 and without bits at N
+/// or above. A sleeper's CPU need not be allowed."
 fn w2(t: &Tables, m: Mutant) -> bool {
-    let least = if m == Mutant::SliceZeroPasses { 0 } else { 1 };
+    let Some(full_slice) = t.full_slice(m) else {
+        return false; // With an error alone: it has been refused with 1.
+    };
+    let (least, most) = match m {
+        Mutant::SliceZeroPasses => (0, full_slice),
+        Mutant::SliceToHundred => (1, 100),
+        Mutant::SlicePastFullPasses => (1, full_slice + 1),
+        _ => (1, full_slice),
+    };
     let stray = |i: usize| t.state[i] == 1 && !allows(t.mask[i], t.cpu[i] as usize);
     (0..TASKS).filter(|&i| t.state[i] != 0).all(|i| {
         (1..=2).contains(&t.policy[i])
             && (1..=99).contains(&t.prio[i])
             && (t.cpu[i] as usize) < t.n
-            && (least..=100).contains(&t.slice[i])
+            && (least..=most).contains(&t.slice[i])
             && mask_right(t.mask[i], t.n)
             && !(m == Mutant::SleeperCpuAllowed && stray(i))
     })

@@ -1,8 +1,9 @@
-//! K1 to K12 of the paper on the reference alone, and the sentences of two requests. L2, "Say what was displaced": with it
+//! K1 to K12 of the paper on the reference alone, and the sentences of some requests. L2, "Say what was displaced": with it
 //! "K2, K5, K8 follow (the fourth numbers are 0; 22 and 12; 0)", and so do the moves of K7 and K10, to idle CPUs. L3,
-//! "Lowered priority goes in front": with it "K11 becomes [0,1]".
+//! "Lowered priority goes in front": with it "K11 becomes [0,1]". L7, "Shorter slice by default": "K9 is run with 100 named",
+//! and so are the others here.
 
-use reference::{check, event, find, make_fresh, Event, Mutant, Tables};
+use reference::{check, event, find, make_fresh, make_fresh_default, Event, Made, Mutant, Tables};
 
 const FIFO: u32 = 1;
 const RR: u32 = 2;
@@ -14,8 +15,18 @@ struct Run {
 
 impl Run {
     fn fresh(n: usize) -> Run {
-        let mut t = Tables::blank(n);
-        assert_eq!(make_fresh(&mut t, Mutant::None), 0);
+        Run::fresh_with_slice(n, 100)
+    }
+
+    fn fresh_with_slice(n: usize, full_slice: u32) -> Run {
+        let mut t = Tables::blank(n, full_slice);
+        assert_eq!(make_fresh(&mut t, Mutant::None), made(full_slice));
+        Run { t, moves: 0 }
+    }
+
+    fn fresh_default(n: usize) -> Run {
+        let mut t = Tables::blank(n, 100);
+        assert_eq!(make_fresh_default(&mut t, Mutant::None), made(25));
         Run { t, moves: 0 }
     }
 
@@ -42,6 +53,17 @@ impl Run {
         self.does(1, who, FIFO, prio, mask)
     }
 
+    fn add_rr(&mut self, who: u32, prio: u32, mask: u64) -> &mut Run {
+        self.does(1, who, RR, prio, mask)
+    }
+
+    fn ticks(&mut self, times: usize) -> &mut Run {
+        for _ in 0..times {
+            self.does(7, 0, 0, 0, 0);
+        }
+        self
+    }
+
     fn wake(&mut self, who: u32) -> &mut Run {
         self.does(3, who, 0, 0, 0)
     }
@@ -60,6 +82,20 @@ impl Run {
         &self.t.log[..4 * self.moves as usize]
     }
 }
+
+/// A maker that accepts hands back the full slice.
+fn made(full_slice: u32) -> Made {
+    Made {
+        answer: 0,
+        full_slice,
+    }
+}
+
+/// "0 on a refusal"
+const REFUSED: Made = Made {
+    answer: 1,
+    full_slice: 0,
+};
 
 fn k2() -> Run {
     let mut run = Run::fresh(2);
@@ -154,15 +190,13 @@ fn k8_a_mask_without_the_cpu() {
 
 #[test]
 fn k9_a_slice_ends() {
-    let mut run = Run::fresh(1);
-    run.does(1, 0, RR, 20, 1).does(1, 1, RR, 20, 1);
+    let mut run = Run::fresh_with_slice(1, 100);
+    run.add_rr(0, 20, 1).add_rr(1, 20, 1);
     run.wake(0).wake(1);
-    for _ in 0..99 {
-        run.does(7, 0, 0, 0, 0);
-    }
+    run.ticks(99);
     assert_eq!(run.t.slice[0], 1);
     assert_eq!(run.rows(), [[0, 1]]);
-    run.does(7, 0, 0, 0, 0);
+    run.ticks(1);
     assert_eq!(run.rows(), [[1, 0]]);
     assert_eq!(run.t.slice[0], 100);
 }
@@ -189,9 +223,10 @@ fn k11_lowered_to_an_equal() {
 #[test]
 fn k12_refusals() {
     for n in [0, 65] {
-        let mut t = Tables::blank(n);
+        let mut t = Tables::blank(n, 100);
         let before = t.clone();
-        assert_eq!(make_fresh(&mut t, Mutant::None), 1);
+        assert_eq!(make_fresh(&mut t, Mutant::None), REFUSED);
+        assert_eq!(make_fresh_default(&mut t, Mutant::None), REFUSED);
         assert_eq!(t, before);
     }
     let mut run = Run::fresh(2);
@@ -294,7 +329,12 @@ fn l2_a_log_of_another_length() {
         let outcome = event(&mut t, sleep, Mutant::None);
         assert_eq!((outcome.answer, outcome.moves), (1, 0), "{length}");
         assert_eq!(check(&t, Mutant::None), 1, "{length}");
-        assert_eq!(make_fresh(&mut t, Mutant::None), 1, "{length}");
+        assert_eq!(make_fresh(&mut t, Mutant::None), REFUSED, "{length}");
+        assert_eq!(
+            make_fresh_default(&mut t, Mutant::None),
+            REFUSED,
+            "{length}"
+        );
         assert_eq!(t, before, "{length}");
     }
 }
@@ -411,4 +451,109 @@ fn l3_a_sleeper_is_lowered() {
     assert_eq!((&run.t, run.moves), (&expected, 0));
     run.wake(1);
     assert_eq!(run.rows(), [[0, 1, 2]]);
+}
+
+/// "kinds 1 and 7 use that number": two equal RR tasks with each full slice, and the tick that ends the first one's.
+#[test]
+fn l7_a_slice_lasts_as_long_as_named() {
+    for full_slice in [1, 2, 3, 25, 100, 999, 1000] {
+        let mut run = Run::fresh_with_slice(1, full_slice);
+        run.add_rr(0, 20, 1).add_rr(1, 20, 1).wake(0).wake(1);
+        let left = |run: &Run| [run.t.slice[0], run.t.slice[1]].map(u32::from);
+        assert_eq!(left(&run), [full_slice; 2]);
+        run.ticks(full_slice as usize - 1);
+        assert_eq!(left(&run), [1, full_slice]);
+        assert_eq!(run.rows(), [[0, 1]]);
+        run.ticks(1);
+        assert_eq!(left(&run), [full_slice; 2]);
+        assert_eq!(run.rows(), [[1, 0]]);
+    }
+}
+
+/// "25 by a second maker told none"
+#[test]
+fn l7_the_second_maker_gives_25() {
+    let mut run = Run::fresh_default(2);
+    run.add(0, 50, 1).add_rr(1, 40, 2);
+    assert_eq!(run.t.slice[..2], [25, 25]);
+    run.wake(1).does(7, 1, 0, 0, 0);
+    assert_eq!(run.t.slice[1], 24);
+}
+
+/// With a full slice of 1 every tick of an RR task puts it behind its equals, and a FIFO task stays.
+#[test]
+fn l7_a_slice_of_one_tick() {
+    let mut run = Run::fresh_with_slice(1, 1);
+    run.add_rr(0, 20, 1).add_rr(1, 20, 1).add(2, 20, 1);
+    run.wake(0).wake(1).wake(2);
+    assert_eq!(run.rows(), [[0, 1, 2]]);
+    run.ticks(1);
+    assert_eq!(run.rows(), [[1, 2, 0]]);
+    run.ticks(1);
+    assert_eq!(run.rows(), [[2, 0, 1]]);
+    run.ticks(3);
+    assert_eq!(run.rows(), [[2, 0, 1]]);
+    assert_eq!(run.t.slice[..3], [1, 1, 1]);
+}
+
+/// "one out of range is refused with 1", by each entry that is handed it; the finder is not.
+#[test]
+fn l7_a_full_slice_out_of_range() {
+    let good = k2().t;
+    let sleep = Event {
+        kind: 4,
+        who: 0,
+        a: 0,
+        b: 0,
+        mask: 0,
+    };
+    for full_slice in [0, 1001, 65535, 65536, 65536 + 25, u32::MAX] {
+        let mut t = good.clone();
+        t.full_slice = full_slice;
+        let before = t.clone();
+        assert_eq!(check(&t, Mutant::None), 1, "{full_slice}");
+        let outcome = event(&mut t, sleep, Mutant::None);
+        assert_eq!((outcome.answer, outcome.moves), (1, 0), "{full_slice}");
+        assert_eq!(make_fresh(&mut t, Mutant::None), REFUSED, "{full_slice}");
+        assert_eq!(find(&t, 101, 3, Mutant::None).answer, 0, "{full_slice}");
+        assert_eq!(t, before, "{full_slice}");
+        assert_eq!(make_fresh_default(&mut t, Mutant::None), made(25));
+        assert_eq!(t.full_slice, 25);
+    }
+}
+
+/// The same machine with 60 in its column. "W2 [...] use that number": a good number is good for it if it is no less.
+#[test]
+fn l7_another_number_for_the_same_tables() {
+    let mut run = Run::fresh_with_slice(1, 60);
+    run.add(0, 50, 1);
+    assert_eq!(run.t.slice[0], 60);
+    for (full_slice, answer) in [
+        (1, 2),
+        (50, 2),
+        (59, 2),
+        (60, 0),
+        (61, 0),
+        (100, 0),
+        (1000, 0),
+        (1001, 1),
+    ] {
+        run.t.full_slice = full_slice;
+        assert_eq!(check(&run.t, Mutant::None), answer, "{full_slice}");
+    }
+}
+
+/// The number is "handed in with each event": a task keeps what it has until it is added or its slice ends.
+#[test]
+fn l7_a_longer_slice_from_an_event_on() {
+    let mut run = Run::fresh_with_slice(1, 2);
+    run.add_rr(0, 20, 1).wake(0).ticks(1);
+    run.t.full_slice = 40;
+    run.add_rr(1, 20, 1).wake(1);
+    assert_eq!(run.t.slice[..2], [1, 40]);
+    run.ticks(1);
+    assert_eq!(run.t.slice[..2], [40, 40]);
+    assert_eq!(run.rows(), [[1, 0]]);
+    run.t.full_slice = 2;
+    assert_eq!(check(&run.t, Mutant::None), 2);
 }

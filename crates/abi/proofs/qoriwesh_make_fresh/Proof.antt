@@ -1,6 +1,6 @@
 -- `abi::qoriwesh_make_fresh` meets its contract.
 -- Assumes nothing.
-use mathlib.Core.Path.{sym, _∙_}
+use mathlib.Core.Path.{refl, sym, _∙_}
 use borrow.Author.Tests.{not-true, not-false}
 use Rattle.levels.specs.Lent.{nowRecord}
 use Rattle.levels.specs.declared.record.Record.{Record}
@@ -21,7 +21,7 @@ module _ (c : tie.Start) where
   abbrev tables : Tables
   tables =
       let x = c .args in
-      nowTables (x .state) (x .policy) (x .prio) (x .cpu) (x .slice) (x .mask) (x .rows) (x .counts) (x .flags) (x .log)
+      nowTables (x .full) (x .state) (x .policy) (x .prio) (x .cpu) (x .slice) (x .mask) (x .rows) (x .counts) (x .flags) (x .log)
 
 -- what came back
 module _ (c : tie.After-write) where
@@ -31,13 +31,13 @@ module _ (c : tie.After-write) where
   abbrev left-tables : Tables
   left-tables =
       let o = at.after-write c .make-fresh-last in
-      lent (o .state) (o .policy) (o .prio) (o .cpu) (o .slice) (o .mask) (o .rows) (o .counts) (o .flags) (o .log)
+      lent (at.after-write c .args .full) (o .state) (o .policy) (o .prio) (o .cpu) (o .slice) (o .mask) (o .rows) (o .counts) (o .flags) (o .log)
 
 returns : tie.Need-returns
 returns c =
     let k = at.returns c in
     let f = k .lengths-fit in
-    made-unfit (k .args .n) (given (k .start)) (tables (k .start)) (sym (f .ensures) ∙ not-true (f .result) (k .if1 .taken))
+    (made-unfit (k .args .n) (given (k .start)) (tables (k .start)) (sym (f .ensures) ∙ not-true (f .result) (k .if1 .taken)), refl)
 
 read-requires : tie.Need-read-requires
 read-requires c κs = let k = at.read-requires c in let f = k .lengths-fit in sym (f .ensures) ∙ not-false (f .result) (k .if1 .left)
@@ -52,9 +52,11 @@ returns-2 c =
     let f = k .lengths-fit in
     let g = k .read in
     let o = k .make-fresh in
-    let w = k .after-write in
-    made-fit (k .args .n) (o .result .answer) (given s) (g .result) (o .result .«record») (left w) (tables s) (left-tables w)
-    (sym (f .ensures) ∙ not-false (f .result) (k .if1 .left)) (g .ensures) (o .ensures) (k .write .ensures)
+    let w = k .after-write in (
+      made-fit (k .args .n) (o .result .answer) (given s) (g .result) (o .result .«record») (left w) (tables s) (left-tables w)
+          (sym (f .ensures) ∙ not-false (f .result) (k .if1 .left)) (g .ensures) (o .ensures .0) (k .write .ensures),
+      o .ensures .1,
+    )
 
 pub qoriwesh-make-fresh-spec : {M : Type 1} → statement M
 qoriwesh-make-fresh-spec = at.close returns read-requires write-requires returns-2

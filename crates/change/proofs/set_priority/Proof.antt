@@ -43,8 +43,8 @@ returns-3 c =
       suc-ne-zero 6,
     )
 
-cast-becomes : tie.Need-cast-becomes
-cast-becomes c = let k = at.cast-becomes c in omega (arith, low (k .args .b) (k .is-priority .ensures) (k .if3 .left))
+cast : at.Need-cast
+cast c = let k = at.cast c in omega (arith, low (k .args .b) (k .is-priority .ensures) (k .if3 .left))
 
 cast-rewrite : tie.Need-cast-rewrite
 cast-rewrite c = search needs
@@ -100,7 +100,7 @@ set-priority-spec =
     returns
     returns-2
     returns-3
-    cast-becomes
+    cast
     cast-rewrite
     rewrite-requires
     returns-4

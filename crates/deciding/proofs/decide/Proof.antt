@@ -56,7 +56,7 @@ returns c =
     let k = at.returns c in
     let x = k .args in
     by-kind m (asked (k .start)) add _ (ap kindOf (k .match .keys1))
-    (k .add .ensures m (x .kind) (l .cpus) (named l (k .task-at .ensures) 1 (k .match .keys1) refl))
+    (k .add .ensures m (x .kind) (l .cpus) (l .ticks) (named l (k .task-at .ensures) 1 (k .match .keys1) refl))
 
 returns-2 : tie.Need-returns-2
 returns-2 c =
@@ -104,7 +104,7 @@ returns-7 c =
     let k = at.returns-7 c in
     let x = k .args in
     by-kind m (asked (k .start)) tick _ (ap kindOf (k .match .keys7))
-    (k .tick .ensures m (x .kind) (x .a) (x .b) (x .k) (l .cpus) (runner l (k .task-at .ensures) 7 (k .match .keys7) refl))
+    (k .tick .ensures m (x .kind) (x .a) (x .b) (x .k) (l .cpus) (l .ticks) (runner l (k .task-at .ensures) 7 (k .match .keys7) refl))
 
 returns-8 : tie.Need-returns-8
 returns-8 c =

@@ -27,7 +27,7 @@ module _ (c : tie.Start) where
   abbrev tables : Tables
   tables =
       let x = c .args in
-      nowTables (x .state) (x .policy) (x .prio) (x .cpu) (x .slice) (x .mask) (x .rows) (x .counts) (x .flags) (x .log)
+      nowTables (x .full) (x .state) (x .policy) (x .prio) (x .cpu) (x .slice) (x .mask) (x .rows) (x .counts) (x .flags) (x .log)
 
   abbrev levels : Record
   levels = let x = c .args in nowRecord (x .masks) (x .tallies) (x .words) (x .levels)
@@ -60,7 +60,7 @@ module _ (c : tie.After-carry-out) where
   left =
       let k = at.after-carry-out c in
       let o = k .carry-out-last in
-      lent (o .state) (o .policy) (o .prio) (o .cpu) (o .slice) (o .mask) (o .rows) (o .counts) (o .flags) (k .args .log .now)
+      lent (k .args .full) (o .state) (o .policy) (o .prio) (o .cpu) (o .slice) (o .mask) (o .rows) (o .counts) (o .flags) (k .args .log .now)
 
   abbrev left-levels : Record
   left-levels = let o = at.after-carry-out c .carry-out-last in lentRecord (o .masks) (o .tallies) (o .words) (o .levels)
@@ -72,7 +72,7 @@ module _ (c : tie.After-carry-out) where
       let e = asked (k .start) in
       let d = k .decide .result in
       let ok = right (k .after-decide) in
-      carries e d h ok (not-refused d (k .match .keys2)) refl (k .carry-out .ensures _ (carriable h e ok))
+      carries e d h ok (not-refused d (k .match .keys2)) refl refl (k .carry-out .ensures _ (carriable h e ok))
 
   -- what was read before it
   past-is : let k = at.after-carry-out c in k .remember .result ≡ pastBy (k .args .settled) (machine (k .start)) (k .decide .result)

@@ -6,7 +6,7 @@ use native.Mathlib.Omega.{arith}
 use borrow.Author.Tests.{not-true, not-false}
 use lib.Dec.{eqb, leb, ltb}
 use Rattle.cpupri.specs.Found.{sizeFits}
-use Rattle.rules.specs.Machine.{taskPlaces}
+use Rattle.rules.specs.Machine.{taskPlaces, longestSlice}
 use Rattle.rules.specs.Tables.{logPlaces}
 use Rattle.laws.proofs.Test.{size-good}
 use Rattle.lenttables.specs.Lent.{sizesFit}
@@ -17,7 +17,7 @@ use Rattle.lenttables.proofs.sizes_fit.Tie as tie
 abbrev others : tie.Start → Bool → Bool
 others c b =
     let a = c .args in
-    b && eqb (a .state) taskPlaces && eqb (a .policy) taskPlaces && eqb (a .prio) taskPlaces && eqb (a .cpu) taskPlaces && eqb (a .slice) taskPlaces
+    b && (leb 1 (a .full) && leb (a .full) longestSlice) && eqb (a .state) taskPlaces && eqb (a .policy) taskPlaces && eqb (a .prio) taskPlaces && eqb (a .cpu) taskPlaces && eqb (a .slice) taskPlaces
     && eqb (a .mask) taskPlaces && eqb (a .rows) (taskPlaces * a .n) && eqb (a .counts) (a .n) && eqb (a .flags) (a .n) && eqb (a .log) logPlaces
 
 returns : tie.Need-returns

@@ -1,7 +1,7 @@
 -- `lifecycle::add` meets its contract.
 -- Assumes nothing.
 use borrow.Author.Needs.{needs}
-use mathlib.Core.Path.{_≡_, ap, _∙_}
+use mathlib.Core.Path.{_≡_, ap, ap₂, _∙_}
 use mathlib.Core.Bool.{not}
 use mathlib.Core.Logic.{_⊎_, inl, inr}
 use Prim.Native.Nat.{ℕ, _≤_}
@@ -10,7 +10,7 @@ use native.Mathlib.Omega.{arith}
 use borrow.Author.Tests.{le-leb, lt-leb, not-false}
 use Rattle.bits.specs.Bit.{lowest}
 use Rattle.bits.proofs.Search.{first-le}
-use Rattle.rules.specs.Machine.{free, asleep, taskPlaces, cpuPlaces, fullSlice, fifo, rr, lowestPriority, highestPriority}
+use Rattle.rules.specs.Machine.{free, asleep, taskPlaces, cpuPlaces, fifo, rr, lowestPriority, highestPriority}
 use Rattle.rules.specs.Events.{event, added}
 use Rattle.rules.specs.Plan.{rewrite}
 use Rattle.laws.proofs.Checks.{between, one-of, mask-good}
@@ -38,17 +38,17 @@ lowest-bit-requires : tie.Need-lowest-bit-requires
 lowest-bit-requires c κs = search needs
 
 returns : tie.Need-returns
-returns c = λ m kind n l. let k = at.returns c in (fails-here _ _ _ (le-leb taskPlaces (k .args .who) (k .if1 .taken)), suc-ne-zero 3)
+returns c = λ m kind n f l. let k = at.returns c in (fails-here _ _ _ (le-leb taskPlaces (k .args .who) (k .if1 .taken)), suc-ne-zero 3)
 
 returns-2 : tie.Need-returns-2
 returns-2 c =
-    λ m kind n l.
+    λ m kind n f l.
     let k = at.returns-2 c in
     (passes-here _ _ _ 5 (lt-leb taskPlaces (k .args .who) (k .if1 .left)) (fails-here _ _ _ (ap not (not-in l free (k .if2 .taken)))), suc-ne-zero 4)
 
 returns-3 : tie.Need-returns-3
 returns-3 c =
-    λ m kind n l.
+    λ m kind n f l.
     let k = at.returns-3 c in (
       passes-here _ _ _ 6 (lt-leb taskPlaces (k .args .who) (k .if1 .left))
           (passes-here _ _ _ 6 (ap not (is-in l free (k .if2 .left))) (fails-here _ _ _ (tested (k .is-policy .ensures) (k .if3 .taken)))),
@@ -57,7 +57,7 @@ returns-3 c =
 
 returns-4 : tie.Need-returns-4
 returns-4 c =
-    λ m kind n l.
+    λ m kind n f l.
     let k = at.returns-4 c in (
       passes-here _ _ _ 7 (lt-leb taskPlaces (k .args .who) (k .if1 .left))
           (passes-here _ _ _ 7 (ap not (is-in l free (k .if2 .left)))
@@ -67,7 +67,7 @@ returns-4 c =
 
 returns-5 : tie.Need-returns-5
 returns-5 c =
-    λ m kind n l.
+    λ m kind n f l.
     let k = at.returns-5 c in (
       passes-here _ _ _ 8 (lt-leb taskPlaces (k .args .who) (k .if1 .left))
           (passes-here _ _ _ 8 (ap not (is-in l free (k .if2 .left)))
@@ -100,7 +100,7 @@ rewrite-requires c κs = search needs
 
 returns-6 : tie.Need-returns-6
 returns-6 c =
-    λ m kind n l.
+    λ m kind n f l.
     let k = at.returns-6 c in
     let x = k .args in
     let fits = tested-mask (x .k) n (k .mask-fits .ensures) (k .if5 .left) in
@@ -112,7 +112,7 @@ returns-6 c =
           (passes-here _ _ _ 0 (tested (k .is-priority .ensures) (k .if4 .left)) (passes-here _ _ _ 0 fits none-left)))),
       replaced
           (k .rewrite .ensures
-          ∙ ap (λ (d : ℕ). rewrite (x .who) (record { state = asleep; policy = x .a; prio = x .b; cpu = d; slice = fullSlice; mask = x .k })) cpu)
+          ∙ ap₂ (λ (d f : ℕ). rewrite (x .who) (record { state = asleep; policy = x .a; prio = x .b; cpu = d; slice = f; mask = x .k })) cpu f)
           (rewritten l (k .if1 .left) (added m (event kind (x .who) (x .a) (x .b) (x .k))) (state-other l (λ z. omega arith))),
     )
 

@@ -3,10 +3,12 @@
 use borrow.Author.Needs.{needs}
 use mathlib.Core.Path.{sym, _∙_}
 use mathlib.Core.Bool.{false≢true}
+use native.Mathlib.Omega.{arith}
 use Rattle.cpupri.specs.Record.{lentRecord}
 use Rattle.lenttables.specs.Lent.{lent, nowTables}
 use Rattle.rules.specs.Events.{Event, event}
 use Rattle.rules.specs.Tables.{Tables}
+use Rattle.laws.proofs.Entry.{checked-good}
 use Rattle.handling.proofs.Handling.{unchecked-result, result-demand}
 use Rattle.machine.proofs.event.Statement.{statement}
 use Rattle.machine.proofs.event.Tie as tie
@@ -18,7 +20,7 @@ module _ (c : tie.Start) where
   abbrev tables : Tables
   tables =
       let x = c .args in
-      nowTables (x .state) (x .policy) (x .prio) (x .cpu) (x .slice) (x .mask) (x .rows) (x .counts) (x .flags) (x .log)
+      nowTables (x .full) (x .state) (x .policy) (x .prio) (x .cpu) (x .slice) (x .mask) (x .rows) (x .counts) (x .flags) (x .log)
 
   abbrev asked : Event
   asked = let x = c .args in event (x .kind) (x .who) (x .a) (x .b) (x .k)
@@ -34,6 +36,13 @@ returns c =
       (λ z. absurd (no z), λ z. absurd (no z)),
     )
 
+-- tables that passed the check have a full slice of at most 1000 ticks
+cast-handle : tie.Need-cast-handle
+cast-handle c =
+    let k = at.cast-handle c in
+    let good = checked-good (k .args .n) (k .args .«record») (tables (k .start)) (sym (k .check .ensures) ∙ k .if1 .left) in
+    omega (arith, good .machine .shape .ticks)
+
 handle-requires : tie.Need-handle-requires
 handle-requires c κs = let k = at.handle-requires c in (sym (k .check .ensures) ∙ k .if1 .left, λ e. absurd (false≢true e))
 
@@ -43,7 +52,7 @@ returns-2 c =
     let h = k .handle in
     let o = k .handle-last in
     let r = lentRecord (o .masks) (o .tallies) (o .words) (o .levels) in
-    let t = lent (o .state) (o .policy) (o .prio) (o .cpu) (o .slice) (o .mask) (o .rows) (o .counts) (o .flags) (o .log) in
+    let t = lent (k .args .full) (o .state) (o .policy) (o .prio) (o .cpu) (o .slice) (o .mask) (o .rows) (o .counts) (o .flags) (o .log) in
     let s = k .start in (
       h .ensures .0,
       (
@@ -53,4 +62,4 @@ returns-2 c =
     )
 
 pub event-spec : {M : Type 1} → statement M
-event-spec = at.close check-requires returns handle-requires returns-2
+event-spec = at.close check-requires returns cast-handle handle-requires returns-2

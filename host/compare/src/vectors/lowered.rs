@@ -1,12 +1,12 @@
 //! Request L3, "Lowered priority goes in front": cases beside K11, worked out by hand. "raised, it goes behind its equals;
 //! unchanged, it stays; lowered, it goes before its equals"
 
-use super::Step::{self, Cpus, Fresh, Levels, Log, Rows};
-use super::{add, prio, then, wake};
+use super::Step::{self, Cpus, Levels, Log, Rows};
+use super::{add, fresh, prio, then, wake};
 
 /// One CPU, and tasks of these priorities, woken from the highest on: they stand in number order.
 fn one_row(prios: &[u32], more: Vec<Step>) -> Vec<Step> {
-    let mut steps = vec![Fresh(1, 0)];
+    let mut steps = vec![fresh(1)];
     for (who, &prio) in (0..).zip(prios) {
         steps.extend([add(who, prio, 1), wake(who)]);
     }
@@ -42,7 +42,7 @@ fn unchanged() -> Vec<Step> {
 /// CPU 1 falls from level 62 to 32, and task 1 waits on CPU 0 at level 42.
 fn another_moves() -> Vec<Step> {
     vec![
-        Fresh(2, 0),
+        fresh(2),
         add(0, 50, 1),
         add(1, 40, 3),
         add(2, 60, 2),
@@ -61,7 +61,7 @@ fn another_moves() -> Vec<Step> {
 /// Lowered to its equal it runs on; lowered below it waits, and goes to the idle CPU.
 fn moves_itself() -> Vec<Step> {
     vec![
-        Fresh(2, 0),
+        fresh(2),
         add(0, 50, 3),
         add(1, 30, 1),
         wake(0),
@@ -78,7 +78,7 @@ fn moves_itself() -> Vec<Step> {
 /// "asleep: the number only"
 fn sleeper() -> Vec<Step> {
     vec![
-        Fresh(1, 0),
+        fresh(1),
         add(0, 30, 1),
         add(1, 50, 1),
         add(2, 20, 1),

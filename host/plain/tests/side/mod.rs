@@ -2,7 +2,7 @@
 
 use compare::call::Call;
 use plain::tables::{ENTRY, TASKS};
-use plain::{Event, Outcome, Record, Tables};
+use plain::{Event, Made, Outcome, Record, Tables};
 
 /// Both on equal tables. The plain side has no tables if rows of 512 places and log entries of four cannot be made of
 /// them, and no record if the four tables of one have other lengths.
@@ -53,7 +53,14 @@ impl Pair {
 
     fn ours(&mut self, call: Call) -> (Vec<u64>, u32) {
         match call {
-            Call::MakeFresh => (vec![self.ours.make_fresh().into()], 0),
+            Call::MakeFresh => {
+                let m = self.ours.make_fresh();
+                (vec![m.answer.into(), m.full_slice.into()], 0)
+            }
+            Call::MakeFreshDefault => {
+                let m = self.ours.make_fresh_default();
+                (vec![m.answer.into(), m.full_slice.into()], 0)
+            }
             Call::Check => (vec![self.ours.check().into()], 0),
             Call::Event(e) => {
                 let o = self.ours.event(e);
@@ -68,7 +75,8 @@ impl Pair {
 
     fn plain(&mut self, call: Call) -> Vec<u64> {
         match (call, &mut self.tables, &mut self.record) {
-            (Call::MakeFresh, Some(t), Some(record)) => vec![t.make_fresh(record).into()],
+            (Call::MakeFresh, Some(t), Some(record)) => made(t.make_fresh(record)),
+            (Call::MakeFreshDefault, Some(t), Some(record)) => made(t.make_fresh_default(record)),
             (Call::Check, Some(t), Some(record)) => vec![plain::check(t, record).into()],
             (Call::Event(e), Some(t), Some(record)) => {
                 let o = plain::event(t, record, &event(e));
@@ -78,8 +86,8 @@ impl Pair {
                 let f = plain::find(self.ours.n, record, level, mask);
                 vec![f.answer.into(), f.level.into(), f.mask]
             }
-            (Call::MakeFresh | Call::Check, ..) => vec![1],
-            (Call::Event(_), ..) => vec![1, 0],
+            (Call::Check, ..) => vec![1],
+            (Call::MakeFresh | Call::MakeFreshDefault | Call::Event(_), ..) => vec![1, 0],
             (Call::Find(..), ..) => vec![1, 255, 0],
         }
     }
@@ -106,6 +114,10 @@ impl Pair {
     }
 }
 
+fn made(made: Made) -> Vec<u64> {
+    vec![made.answer.into(), made.full_slice.into()]
+}
+
 fn handle(t: &mut Tables, record: &mut Record, e: binding::Event, settled: bool) -> Outcome {
     let mut t = t.lend().expect("right lengths");
     plain::handle(&mut t, record, &event(e), settled)
@@ -126,6 +138,7 @@ fn tables(t: &binding::Tables) -> Option<Tables> {
     let log = t.log.chunks(ENTRY).map(|entry| entry.try_into().ok());
     Some(Tables {
         n: t.n,
+        full_slice: t.full_slice,
         state: t.state.clone(),
         policy: t.policy.clone(),
         prio: t.prio.clone(),

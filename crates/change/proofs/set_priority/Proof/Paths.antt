@@ -6,6 +6,9 @@ use Rattle.change.proofs.set_priority.Tie as tie
 abbrev typeOf : {A : Type 0} → A → Type 0
 typeOf {A} x = A
 
+abbrev pub Need-cast : Type 0
+Need-cast = tie.Need-cast-t10
+
 abbrev pub start : (c : tie.Start) → record { args : typeOf (c .args) }
 start c = record { args = c .args }
 
@@ -57,8 +60,8 @@ returns-2 c = then2 c
 abbrev pub returns-3 : (c : tie.Then3) → typeOf (then3 c)
 returns-3 c = then3 c
 
-abbrev pub cast-becomes : (c : tie.Else3) → typeOf (else3 c)
-cast-becomes c = else3 c
+abbrev pub cast : (c : tie.Else3) → typeOf (else3 c)
+cast c = else3 c
 
 abbrev pub returns-4 : (c : tie.After-rewrite) → typeOf (after-rewrite c)
 returns-4 c = after-rewrite c
@@ -69,7 +72,7 @@ returns-5 c = then5 c
 abbrev pub returns-6 : (c : tie.After-reorder) → typeOf (after-reorder c)
 returns-6 c = after-reorder c
 
-pub close : {M : Type 1} → tie.Need-is-priority-requires → tie.Need-returns → tie.Need-returns-2 → tie.Need-returns-3 → tie.Need-cast-becomes → tie.Need-cast-rewrite → tie.Need-rewrite-requires → tie.Need-returns-4 → tie.Need-returns-5 → tie.Need-cast-home → tie.Need-cast-reorder → tie.Need-reorder-requires → tie.Need-returns-6 → statement M
+pub close : {M : Type 1} → tie.Need-is-priority-requires → tie.Need-returns → tie.Need-returns-2 → tie.Need-returns-3 → tie.Need-cast-t10 → tie.Need-cast-rewrite → tie.Need-rewrite-requires → tie.Need-returns-4 → tie.Need-returns-5 → tie.Need-cast-home → tie.Need-cast-reorder → tie.Need-reorder-requires → tie.Need-returns-6 → statement M
 close a0 a1 a2 a3 a4 a5 a6 a7 a8 a9 a10 a11 a12 =
     tie.close
     (tie.spec

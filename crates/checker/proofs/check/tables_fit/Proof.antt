@@ -20,14 +20,14 @@ use Rattle.checker.proofs.check.tables_fit.Tie as tie
 use Rattle.checker.proofs.check.tables_fit.Proof.Paths as at
 mod Paths
 
-sized : (c : tie.Start) → Sized (c .args .t11)
+sized : (c : tie.Start) → Sized (c .args .t12)
 sized c = record {
   masks = search needs;
   counts = search needs;
   words = search needs;
   levels = search needs;
-  mask = λ l. let f : Fits w64 (getD (c .args .t11 .masks) l 0) = search needs in f .fits;
-  word = λ i. let f : Fits w64 (getD (c .args .t11 .words) i 0) = search needs in f .fits;
+  mask = λ l. let f : Fits w64 (getD (c .args .t12 .masks) l 0) = search needs in f .fits;
+  word = λ i. let f : Fits w64 (getD (c .args .t12 .words) i 0) = search needs in f .fits;
 }
 
 -- what the caller lent
@@ -35,7 +35,7 @@ module _ (c : tie.Start) where
   abbrev tables : Tables
   tables =
       let x = c .args in
-      lent (x .state .now) (x .policy .now) (x .prio .now) (x .cpu .now) (x .slice .now) (x .mask .now) (x .rows .now) (x .counts .now) (x .flags .now) []
+      lent (x .full) (x .state .now) (x .policy .now) (x .prio .now) (x .cpu .now) (x .slice .now) (x .mask .now) (x .rows .now) (x .counts .now) (x .flags .now) []
 
 rows-fit-requires : tie.Need-rows-fit-requires
 rows-fit-requires c κs = search needs
@@ -48,8 +48,8 @@ returns c =
     let s = tables (k .start) in
     let rows = k .rows-fit in
     sym
-    (fails (tablesFit (a .n) (a .t11) s)
-    (λ e. no (rows .result .fit) (rows .ensures .0) (not-true (rows .result .fit) (k .if1 .taken)) (fit-rows (a .n) s (p .0) (p .1 .0) (p .1 .1) (a .t11) e)))
+    (fails (tablesFit (a .n) (a .t12) s)
+    (λ e. no (rows .result .fit) (rows .ensures .0) (not-true (rows .result .fit) (k .if1 .taken)) (fit-rows (a .n) s (p .0) (p .1 .0) (p .1 .1) (a .t12) e)))
 
 is-consistent-requires : tie.Need-is-consistent-requires
 is-consistent-requires c κs = sized (at.is-consistent-requires c .start)
@@ -67,16 +67,16 @@ returns-2 c =
     let columns = k .columns-fit in
     let own = k .is-consistent in
     let fit : rows .result .fit ≡ true = not-false (rows .result .fit) (k .if1 .left) in
-    let levelled : length (a .t11 .levels) ≡ 64 = sized (k .start) .levels in
-    decides (columns .result && own .result) (tablesFit (a .n) (a .t11) s)
+    let levelled : length (a .t12 .levels) ≡ 64 = sized (k .start) .levels in
+    decides (columns .result && own .result) (tablesFit (a .n) (a .t12) s)
     (λ e.
     let b = both (columns .result) (own .result) e in
-    passes-fit (a .n) s (p .0) (p .1 .0) (p .1 .1) (a .t11) levelled (rows .result .marks) (yes (rows .result .fit) (rows .ensures .0) fit)
+    passes-fit (a .n) s (p .0) (p .1 .0) (p .1 .1) (a .t12) levelled (rows .result .marks) (yes (rows .result .fit) (rows .ensures .0) fit)
     (rows .ensures .1 fit) (yes (columns .result) (columns .ensures) (b .0)) (sym (own .ensures) ∙ b .1))
     (λ e.
     and-both (columns .result) (own .result)
-    (said (columns .result) (columns .ensures) (fit-columns (a .n) s (p .0) (p .1 .0) (p .1 .1) (a .t11) e (rows .result .marks) (rows .ensures .1 fit)))
-    (own .ensures ∙ fit-consistent (a .n) s (p .0) (p .1 .0) (p .1 .1) (a .t11) e))
+    (said (columns .result) (columns .ensures) (fit-columns (a .n) s (p .0) (p .1 .0) (p .1 .1) (a .t12) e (rows .result .marks) (rows .ensures .1 fit)))
+    (own .ensures ∙ fit-consistent (a .n) s (p .0) (p .1 .0) (p .1 .1) (a .t12) e))
 
 pub tables-fit-spec : {M : Type 1} → statement M
 tables-fit-spec = at.close rows-fit-requires returns is-consistent-requires columns-fit-requires returns-2

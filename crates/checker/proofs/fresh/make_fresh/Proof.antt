@@ -1,6 +1,6 @@
 -- `checker::fresh::make_fresh` meets its contract.
 -- Assumes nothing.
-use mathlib.Core.Path.{sym, _∙_}
+use mathlib.Core.Path.{refl, sym, _∙_}
 use borrow.Author.Tests.{not-true, not-false}
 use Rattle.lenttables.specs.Lent.{lent, nowTables, sizesFit}
 use Rattle.rules.specs.Tables.{Tables}
@@ -16,14 +16,14 @@ module _ (c : tie.Start) where
   abbrev tables : Tables
   tables =
       let x = c .args in
-      nowTables (x .state) (x .policy) (x .prio) (x .cpu) (x .slice) (x .mask) (x .rows) (x .counts) (x .flags) (x .log)
+      nowTables (x .full) (x .state) (x .policy) (x .prio) (x .cpu) (x .slice) (x .mask) (x .rows) (x .counts) (x .flags) (x .log)
 
 returns : tie.Need-returns
 unfolding sizesFit
 returns c =
     let k = at.returns c in
     let f = k .sizes-fit in
-    sym (made-refused (k .args .n) (k .args .«record») (tables (k .start)) (sym (f .ensures) ∙ not-true (f .result) (k .if1 .taken)))
+    (sym (made-refused (k .args .n) (k .args .«record») (tables (k .start)) (sym (f .ensures) ∙ not-true (f .result) (k .if1 .taken))), refl)
 
 fresh-requires : tie.Need-fresh-requires
 unfolding sizesFit
@@ -40,23 +40,26 @@ returns-2 c =
     let t = k .free-tasks-last in
     let r = k .empty-rows-last in
     let tasks = k .free-tasks .ensures in
-    let rows = k .empty-rows .ensures in
-    made-blank (k .args .n) (k .args .«record») (k .fresh .result) (tables (k .start))
-    (lent (t .state) (t .policy) (t .prio) (t .cpu) (t .slice) (t .mask) (r .rows) (r .counts) (r .flags) (r .log))
-    (sym (f .ensures) ∙ not-false (f .result) (k .if1 .left))
-    (record {
-      state = tasks .0;
-      policy = tasks .1 .0;
-      prio = tasks .1 .1 .0;
-      cpu = tasks .1 .1 .1 .0;
-      slice = tasks .1 .1 .1 .1 .0;
-      mask = tasks .1 .1 .1 .1 .1;
-      rows = rows .0;
-      counts = rows .1 .0;
-      flags = rows .1 .1 .0;
-      log = rows .1 .1 .1;
-    })
-    (k .fresh .ensures)
+    let rows = k .empty-rows .ensures in (
+      made-blank (k .args .n) (k .args .«record») (k .fresh .result) (tables (k .start))
+          (lent (k .args .full) (t .state) (t .policy) (t .prio) (t .cpu) (t .slice) (t .mask) (r .rows) (r .counts) (r .flags) (r .log))
+          (sym (f .ensures) ∙ not-false (f .result) (k .if1 .left))
+          (record {
+            full = refl;
+            state = tasks .0;
+            policy = tasks .1 .0;
+            prio = tasks .1 .1 .0;
+            cpu = tasks .1 .1 .1 .0;
+            slice = tasks .1 .1 .1 .1 .0;
+            mask = tasks .1 .1 .1 .1 .1;
+            rows = rows .0;
+            counts = rows .1 .0;
+            flags = rows .1 .1 .0;
+            log = rows .1 .1 .1;
+          })
+          (k .fresh .ensures),
+      refl,
+    )
 
 pub make-fresh-spec : {M : Type 1} → statement M
 make-fresh-spec =

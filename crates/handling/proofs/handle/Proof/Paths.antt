@@ -10,7 +10,7 @@ abbrev typeOf : {A : Type 0} → A → Type 0
 typeOf {A} x = A
 
 abbrev pub Need-cast : Type 0
-Need-cast = tie.Need-cast-t95
+Need-cast = tie.Need-cast-t96
 
 abbrev pub start : (c : tie.Start) → record { args : typeOf (c .args); pre : typeOf (c .pre); start : tie.Start }
 start c = record { args = c .args; pre = c .pre; start = c }
@@ -69,7 +69,7 @@ cast c = after-settle (c .before .before .before .before .before .before .before
 abbrev pub returns-2 : (c : tie.After-slice-known23) → typeOf (after-settle (c .before .before .before .before .before .before .before .before))
 returns-2 c = after-settle (c .before .before .before .before .before .before .before .before)
 
-pub close : {M : Type 1} → tie.Need-subject-requires → tie.Need-decide-requires → tie.Need-enum-known-decision → tie.Need-returns → tie.Need-remember-requires → tie.Need-carry-out-requires → tie.Need-hint-requires → tie.Need-settle-requires → tie.Need-cast-t95 → tie.Need-returns-2 → statement M
+pub close : {M : Type 1} → tie.Need-subject-requires → tie.Need-decide-requires → tie.Need-enum-known-decision → tie.Need-returns → tie.Need-remember-requires → tie.Need-carry-out-requires → tie.Need-hint-requires → tie.Need-settle-requires → tie.Need-cast-t96 → tie.Need-returns-2 → statement M
 close a0 a1 a2 a3 a4 a5 a6 a7 a8 a9 =
     tie.close
     (tie.spec

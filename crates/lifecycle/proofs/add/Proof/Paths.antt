@@ -7,13 +7,13 @@ abbrev typeOf : {A : Type 0} → A → Type 0
 typeOf {A} x = A
 
 abbrev pub Need-cast : Type 0
-Need-cast = tie.Need-cast-t14
+Need-cast = tie.Need-cast-t15
 
 abbrev pub Need-cast-2 : Type 0
-Need-cast-2 = tie.Need-cast-t15
+Need-cast-2 = tie.Need-cast-t16
 
 abbrev pub Need-cast-3 : Type 0
-Need-cast-3 = tie.Need-cast-t16
+Need-cast-3 = tie.Need-cast-t17
 
 abbrev pub start : (c : tie.Start) → record { args : typeOf (c .args) }
 start c = record { args = c .args }
@@ -90,7 +90,7 @@ cast-3 c = else5 c
 abbrev pub returns-6 : (c : tie.After-rewrite) → typeOf (after-rewrite c)
 returns-6 c = after-rewrite c
 
-pub close : {M : Type 1} → tie.Need-is-policy-requires → tie.Need-is-priority-requires → tie.Need-mask-fits-requires → tie.Need-lowest-bit-requires → tie.Need-returns → tie.Need-returns-2 → tie.Need-returns-3 → tie.Need-returns-4 → tie.Need-returns-5 → tie.Need-cast-t14 → tie.Need-cast-t15 → tie.Need-cast-t16 → tie.Need-cast-rewrite → tie.Need-rewrite-requires → tie.Need-returns-6 → statement M
+pub close : {M : Type 1} → tie.Need-is-policy-requires → tie.Need-is-priority-requires → tie.Need-mask-fits-requires → tie.Need-lowest-bit-requires → tie.Need-returns → tie.Need-returns-2 → tie.Need-returns-3 → tie.Need-returns-4 → tie.Need-returns-5 → tie.Need-cast-t15 → tie.Need-cast-t16 → tie.Need-cast-t17 → tie.Need-cast-rewrite → tie.Need-rewrite-requires → tie.Need-returns-6 → statement M
 close a0 a1 a2 a3 a4 a5 a6 a7 a8 a9 a10 a11 a12 a13 a14 =
     tie.close
     (tie.spec

@@ -27,14 +27,17 @@ after-handle c = let b = else1 (c .before .before .before .before .before .befor
 abbrev pub returns : (c : tie.Then1) → typeOf (then1 c)
 returns c = then1 c
 
+abbrev pub cast-handle : (c : tie.After-levels2) → typeOf (else1 (c .before .before .before .before .before .before .before .before .before .before .before .before .before .before .before .before .before .before))
+cast-handle c = else1 (c .before .before .before .before .before .before .before .before .before .before .before .before .before .before .before .before .before .before)
+
 abbrev pub handle-requires : (c : tie.After-levels2) → typeOf (else1 (c .before .before .before .before .before .before .before .before .before .before .before .before .before .before .before .before .before .before))
 handle-requires c = else1 (c .before .before .before .before .before .before .before .before .before .before .before .before .before .before .before .before .before .before)
 
 abbrev pub returns-2 : (c : tie.After-slice-known20) → typeOf (after-handle (c .before .before .before .before .before .before .before .before .before .before .before .before .before .before .before .before .before .before .before .before))
 returns-2 c = after-handle (c .before .before .before .before .before .before .before .before .before .before .before .before .before .before .before .before .before .before .before .before)
 
-pub close : {M : Type 1} → tie.Need-check-requires → tie.Need-returns → tie.Need-handle-requires → tie.Need-returns-2 → statement M
-close a0 a1 a2 a3 =
+pub close : {M : Type 1} → tie.Need-check-requires → tie.Need-returns → tie.Need-cast-handle → tie.Need-handle-requires → tie.Need-returns-2 → statement M
+close a0 a1 a2 a3 a4 =
     tie.close
     (tie.spec
     a0
@@ -50,6 +53,7 @@ close a0 a1 a2 a3 =
     (λ c. refl)
     a1
     a2
+    a3
     (λ c. returns-2 c .handle .kept .1 .1 .0)
     (λ c. returns-2 c .handle .kept .1 .1 .1 .0)
     (λ c. returns-2 c .handle .kept .1 .1 .1 .1 .0)
@@ -60,4 +64,4 @@ close a0 a1 a2 a3 =
     (λ c. returns-2 c .handle .kept .1 .1 .1 .1 .1 .1 .1 .1 .1 .0)
     (λ c. returns-2 c .handle .kept .1 .1 .1 .1 .1 .1 .1 .1 .1 .1 .0)
     (λ c. returns-2 c .handle .kept .1 .1 .1 .1 .1 .1 .1 .1 .1 .1 .1 .0)
-    a3)
+    a4)

@@ -54,7 +54,7 @@ returns-4 c = after-rewrite c
 abbrev pub returns-5 : (c : tie.After-shift) → typeOf (after-shift c)
 returns-5 c = after-shift c
 
-pub close : {M : Type 1} → tie.Need-returns → tie.Need-returns-2 → tie.Need-returns-3 → tie.Need-sub-less → tie.Need-cast-rewrite → tie.Need-rewrite-requires → tie.Need-returns-4 → tie.Need-cast-shift → tie.Need-shift-requires → tie.Need-returns-5 → statement M
+pub close : {M : Type 1} → tie.Need-returns → tie.Need-returns-2 → tie.Need-returns-3 → tie.Need-sub-rewrite → tie.Need-cast-rewrite → tie.Need-rewrite-requires → tie.Need-returns-4 → tie.Need-cast-shift → tie.Need-shift-requires → tie.Need-returns-5 → statement M
 close a0 a1 a2 a3 a4 a5 a6 a7 a8 a9 =
     tie.close
     (tie.spec

@@ -15,7 +15,7 @@ unfolding rangesFit
 returns c =
     let a = c .before .args in
     ap (λ (b : Bool).
-    leb 1 (a .policy) && leb (a .policy) 2 && leb 1 (a .prio) && leb (a .prio) 99 && ltb (a .cpu) (a .n) && leb 1 (a .slice) && leb (a .slice) 100 && b)
+    leb 1 (a .policy) && leb (a .policy) 2 && leb 1 (a .prio) && leb (a .prio) 99 && ltb (a .cpu) (a .n) && leb 1 (a .slice) && leb (a .slice) (a .full) && b)
     (c .mask-fits .ensures)
 
 pub in-range-spec : {M : Type 1} → statement M

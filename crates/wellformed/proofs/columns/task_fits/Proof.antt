@@ -18,12 +18,12 @@ abbrev given : tie.Start → Task
 given c = let a = c .args in task (a .state) (a .policy) (a .prio) (a .cpu) (a .slice) (a .mask)
 
 -- the test of W2 was passed
-ranged : (c : tie.Else2) → let k = at.else2 c in fits (k .args .n) (given (k .start)) ≡ true
+ranged : (c : tie.Else2) → let k = at.else2 c in fits (k .args .n) (k .args .full) (given (k .start)) ≡ true
 unfolding rangesFit
 ranged c = let k = at.else2 c in sym (k .in-range .ensures) ∙ not-false (k .in-range .result) (k .if2 .left)
 
 returns : tie.Need-returns
-returns c = let k = at.returns c in sym (sound-free (k .args .placed) (k .args .n) (given (k .start)) (k .if1 .taken))
+returns c = let k = at.returns c in sym (sound-free (k .args .placed) (k .args .n) (k .args .full) (given (k .start)) (k .if1 .taken))
 
 in-range-requires : tie.Need-in-range-requires
 in-range-requires c κs = search needs
@@ -33,12 +33,12 @@ unfolding rangesFit
 returns-2 c =
     let k = at.returns-2 c in
     let out = sym (k .in-range .ensures) ∙ not-true (k .in-range .result) (k .if2 .taken) in
-    sym (sound-out (k .args .placed) (k .args .n) (given (k .start)) (k .if1 .left) out)
+    sym (sound-out (k .args .placed) (k .args .n) (k .args .full) (given (k .start)) (k .if1 .left) out)
 
 test-bit-requires : tie.Need-test-bit-requires
 test-bit-requires c κs =
     let k = at.test-bit-requires c in
-    let low = fits-cpu (k .args .n) (given (k .start)) (ranged (k .else2)) in
+    let low = fits-cpu (k .args .n) (k .args .full) (given (k .start)) (ranged (k .else2)) in
     omega arith
 
 returns-3 : tie.Need-returns-3
@@ -46,7 +46,7 @@ returns-3 c =
     let k = at.returns-3 c in
     let a = k .args in
     ap (λ (b : Bool). eqb (a .state) 1 || (eqb (a .state) 2 && a .placed && b)) (k .test-bit .ensures)
-    ∙ sym (sound-in (a .placed) (a .n) (given (k .start)) (k .if1 .left) (ranged (k .else2)))
+    ∙ sym (sound-in (a .placed) (a .n) (a .full) (given (k .start)) (k .if1 .left) (ranged (k .else2)))
 
 pub task-fits-spec : {M : Type 1} → statement M
 task-fits-spec = at.close returns in-range-requires returns-2 test-bit-requires returns-3
