@@ -21,7 +21,8 @@ use runqueue::row::PLACES;
 // Kind 1: a new task, asleep on the lowest-numbered allowed CPU, with a full slice.
 pub fn add(n: usize, full: u16, named: Task, who: u32, a: u32, b: u32, k: u64) -> Decision
     requires { ⌜ n ≤ cpuPlaces ⌝ }
-    ensures { λ r. ⌜ ((m : Machine) (kind : ℕ) → n ≡ m .n → full ≡ m .full → Named m who named → DecidedAs addKind m (event kind who a b k) r) ⌝ }
+    ensures { λ r. ⌜ ((m : Machine) (kind : ℕ) → n ≡ m .n → full ≡ m .full → Named m who named
+        → DecidedAs addKind m (event kind who a b k) r) ⌝ }
 {
     let known = is_policy(a);
     let in_range = is_priority(b);

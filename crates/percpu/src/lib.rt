@@ -18,7 +18,8 @@ const WORK: u32 = 1;
 // Kind 7: an RR task has a tick less; at 0 its slice is full again and it goes behind its equals.
 // Nothing happens to a FIFO task or to an empty row.
 pub fn tick(n: usize, full: u16, at: usize, runner: Task, who: u32) -> Decision
-    ensures { λ r. ⌜ ((m : Machine) (kind a b k : ℕ) → n ≡ m .n → full ≡ m .full → Runs m who at runner → DecidedAs tickKind m (event kind who a b k) r) ⌝ }
+    ensures { λ r. ⌜ ((m : Machine) (kind a b k : ℕ) → n ≡ m .n → full ≡ m .full → Runs m who at runner
+        → DecidedAs tickKind m (event kind who a b k) r) ⌝ }
 {
     let cpu = who as usize;
     if n <= cpu {

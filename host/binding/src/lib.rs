@@ -145,6 +145,19 @@ pub struct Event {
     pub mask: u64,
 }
 
+impl Event {
+    /// The numbers in document 01's order.
+    pub const fn new(kind: u32, who: u32, a: u32, b: u32, mask: u64) -> Event {
+        Event {
+            kind,
+            who,
+            a,
+            b,
+            mask,
+        }
+    }
+}
+
 /// What a maker answers: 0 and the machine's full slice, or a refusal and 0.
 #[derive(Clone, Copy, Debug, PartialEq, Eq)]
 pub struct Made {

@@ -221,32 +221,22 @@ pub fn for_reference_event(e: Event) -> reference::Event {
 mod tests {
     use super::*;
 
-    fn event(kind: u32, who: u32, a: u32, b: u32, mask: u64) -> Event {
-        Event {
-            kind,
-            who,
-            a,
-            b,
-            mask,
-        }
-    }
-
     /// Tasks 0 (50), 1 and 2 (30) stand in one row; task 3 (30) sleeps on that CPU.
     #[test]
     fn a_new_priority_is_compared_among_equals_alone() {
         let mut t = Tables::fresh(1).expect("1 CPU");
         for (who, prio) in [(0, 50), (1, 30), (2, 30), (3, 30)] {
-            assert_eq!(t.event(event(1, who, 1, prio, 1)).answer, 0);
+            assert_eq!(t.event(Event::new(1, who, 1, prio, 1)).answer, 0);
         }
         for who in 0..3 {
-            assert_eq!(t.event(event(3, who, 0, 0, 0)).answer, 0);
+            assert_eq!(t.event(Event::new(3, who, 0, 0, 0)).answer, 0);
         }
-        let way = |who, prio| compare_among_equals(&t, event(5, who, 0, prio, 0));
+        let way = |who, prio| compare_among_equals(&t, Event::new(5, who, 0, prio, 0));
         assert_eq!(way(0, 30), Some(Ordering::Less));
         assert_eq!(way(1, 30), Some(Ordering::Equal));
         assert_eq!(way(2, 50), Some(Ordering::Greater));
         assert_eq!([way(0, 50), way(0, 40), way(3, 30)], [None; 3]);
-        assert_eq!(compare_among_equals(&t, event(4, 1, 0, 30, 0)), None);
+        assert_eq!(compare_among_equals(&t, Event::new(4, 1, 0, 30, 0)), None);
     }
 
     /// Tables of 2 CPUs, lent with other numbers.
@@ -255,7 +245,7 @@ mod tests {
         let calls = [
             Call::MakeFresh,
             Call::Check,
-            Call::Event(event(7, 0, 0, 0, 0)),
+            Call::Event(Event::new(7, 0, 0, 0, 0)),
         ];
         for (n, full_slice, answer) in [
             (2, 1000, (0, false)),
@@ -279,11 +269,11 @@ mod tests {
         let t = Tables::fresh_with_slice(1, 2).expect("1 CPU");
         let mut pair = Pair::new(t, Mutant::None);
         let mut refills = |e| pair.call(Call::Event(e)).expect("the same").refilled;
-        assert!(!refills(event(1, 0, 2, 50, 1)));
-        assert!(!refills(event(3, 0, 0, 0, 0)));
-        let tick = event(7, 0, 0, 0, 0);
+        assert!(!refills(Event::new(1, 0, 2, 50, 1)));
+        assert!(!refills(Event::new(3, 0, 0, 0, 0)));
+        let tick = Event::new(7, 0, 0, 0, 0);
         assert_eq!([tick; 4].map(&mut refills), [false, true, false, true]);
         assert!(!refills(tick));
-        assert!(!refills(event(8, 0, 0, 0, 0)));
+        assert!(!refills(Event::new(8, 0, 0, 0, 0)));
     }
 }

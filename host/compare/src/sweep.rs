@@ -182,12 +182,12 @@ fn every_slice(step: usize, mutant: Mutant, counters: &mut Counters) -> Option<F
 
 /// Each entry, the events that use the full slice, and both makers, each with an add after it.
 fn slice_calls() -> Vec<Call> {
-    let add = |who| Call::Event(event(1, who, 2, 50, 1));
+    let add = |who| Call::Event(Event::new(1, who, 2, 50, 1));
     vec![
         Call::Check,
         Call::Find(101, 1),
         add(2),
-        Call::Event(event(7, 0, 0, 0, 0)),
+        Call::Event(Event::new(7, 0, 0, 0, 0)),
         Call::MakeFresh,
         add(3),
         Call::MakeFreshDefault,
@@ -239,7 +239,7 @@ fn every_place(step: usize, mutant: Mutant, counters: &mut Counters) -> Option<F
     let calls = vec![
         Call::Check,
         Call::Find(101, 7),
-        Call::Event(event(7, 0, 0, 0, 0)),
+        Call::Event(Event::new(7, 0, 0, 0, 0)),
     ];
     let mut chosen = changes(&good).step_by(step);
     chosen.find_map(|(which, damage)| {
@@ -250,16 +250,6 @@ fn every_place(step: usize, mutant: Mutant, counters: &mut Counters) -> Option<F
         };
         case.run_counted(origin(None, mutant), counters)
     })
-}
-
-fn event(kind: u32, who: u32, a: u32, b: u32, mask: u64) -> Event {
-    Event {
-        kind,
-        who,
-        a,
-        b,
-        mask,
-    }
 }
 
 /// Each kind with each number about a limit: where several refusals apply, the order decides.

@@ -42,16 +42,6 @@ use Step::*;
 const FIFO: u32 = 1;
 const RR: u32 = 2;
 
-fn event(kind: u32, who: u32, a: u32, b: u32, mask: u64) -> Event {
-    Event {
-        kind,
-        who,
-        a,
-        b,
-        mask,
-    }
-}
-
 /// A machine with 100 named.
 fn fresh(n: usize) -> Step {
     Make(n, Some(100), 0, 100)
@@ -62,27 +52,27 @@ fn refused(n: usize, full_slice: Option<u32>) -> Step {
 }
 
 fn add(who: u32, prio: u32, mask: u64) -> Step {
-    Do(event(1, who, FIFO, prio, mask), 0)
+    Do(Event::new(1, who, FIFO, prio, mask), 0)
 }
 
 fn add_rr(who: u32, prio: u32, mask: u64) -> Step {
-    Do(event(1, who, RR, prio, mask), 0)
+    Do(Event::new(1, who, RR, prio, mask), 0)
 }
 
 fn wake(who: u32) -> Step {
-    Do(event(3, who, 0, 0, 0), 0)
+    Do(Event::new(3, who, 0, 0, 0), 0)
 }
 
 fn sleep(who: u32) -> Step {
-    Do(event(4, who, 0, 0, 0), 0)
+    Do(Event::new(4, who, 0, 0, 0), 0)
 }
 
 fn prio(who: u32, prio: u32) -> Step {
-    Do(event(5, who, 0, prio, 0), 0)
+    Do(Event::new(5, who, 0, prio, 0), 0)
 }
 
 fn tick(cpu: u32) -> Step {
-    Do(event(7, cpu, 0, 0, 0), 0)
+    Do(Event::new(7, cpu, 0, 0, 0), 0)
 }
 
 fn k1() -> Vec<Step> {
@@ -160,7 +150,7 @@ fn k7() -> Vec<Step> {
 
 fn k8() -> Vec<Step> {
     let more = vec![
-        Do(event(6, 0, 0, 0, 2), 0),
+        Do(Event::new(6, 0, 0, 0, 2), 0),
         Rows(&[&[1], &[0]]),
         Log(&[[1, 1, 0, 0]]),
     ];
@@ -189,7 +179,7 @@ fn k9() -> Vec<Step> {
 fn k10() -> Vec<Step> {
     vec![
         fresh(3),
-        Do(event(9, 1, 0, 1, 0), 0),
+        Do(Event::new(9, 1, 0, 1, 0), 0),
         add(0, 50, 7),
         add(1, 40, 7),
         wake(0),
@@ -218,16 +208,16 @@ fn k12() -> Vec<Step> {
         refused(0, Some(100)),
         refused(65, Some(100)),
         fresh(2),
-        Do(event(1, 512, FIFO, 50, 3), 4),
-        Do(event(3, 512, 0, 0, 0), 4),
+        Do(Event::new(1, 512, FIFO, 50, 3), 4),
+        Do(Event::new(3, 512, 0, 0, 0), 4),
         add(511, 1, 3),
         wake(511),
-        Do(event(3, 511, 0, 0, 0), 5),
-        Do(event(1, 0, FIFO, 0, 3), 7),
-        Do(event(1, 0, FIFO, 100, 3), 7),
-        Do(event(1, 0, FIFO, 50, 0), 8),
-        Do(event(1, 0, FIFO, 50, 4), 8),
-        Do(event(8, 1, 0, 0, 0), 9),
+        Do(Event::new(3, 511, 0, 0, 0), 5),
+        Do(Event::new(1, 0, FIFO, 0, 3), 7),
+        Do(Event::new(1, 0, FIFO, 100, 3), 7),
+        Do(Event::new(1, 0, FIFO, 50, 0), 8),
+        Do(Event::new(1, 0, FIFO, 50, 4), 8),
+        Do(Event::new(8, 1, 0, 0, 0), 9),
         fresh(64),
         add(511, 99, 1 << 63),
         wake(511),

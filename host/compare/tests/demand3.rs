@@ -3,16 +3,6 @@
 use binding::{Event, Tables};
 use compare::demand3::{check, Before};
 
-fn event(kind: u32, who: u32, a: u32, b: u32, mask: u64) -> Event {
-    Event {
-        kind,
-        who,
-        a,
-        b,
-        mask,
-    }
-}
-
 const WAKE_3: Event = Event {
     kind: 3,
     who: 3,
@@ -25,10 +15,10 @@ const WAKE_3: Event = Event {
 fn k5() -> (Before, Tables) {
     let mut t = Tables::fresh(3).expect("3 CPUs");
     for (who, prio, mask) in [(0, 30, 3), (1, 20, 6), (2, 10, 4), (3, 40, 1)] {
-        assert_eq!(t.event(event(1, who, 1, prio, mask)).answer, 0);
+        assert_eq!(t.event(Event::new(1, who, 1, prio, mask)).answer, 0);
     }
     for who in 0..3 {
-        assert_eq!(t.event(event(3, who, 0, 0, 0)).answer, 0);
+        assert_eq!(t.event(Event::new(3, who, 0, 0, 0)).answer, 0);
     }
     let before = Before::of(&t);
     assert_eq!(t.event(WAKE_3).moves, 2);
@@ -109,15 +99,15 @@ fn a_level_without_a_task() {
     for flag in [0, 1] {
         let mut t = Tables::fresh(2).expect("2 CPUs");
         for e in [
-            event(9, 1, 0, flag, 0),
-            event(1, 0, 1, 50, 1),
-            event(1, 1, 1, 40, 3),
-            event(3, 0, 0, 0, 0),
+            Event::new(9, 1, 0, flag, 0),
+            Event::new(1, 0, 1, 50, 1),
+            Event::new(1, 1, 1, 40, 3),
+            Event::new(3, 0, 0, 0, 0),
         ] {
             assert_eq!(t.event(e).answer, 0);
         }
         let before = Before::of(&t);
-        let wake = event(3, 1, 0, 0, 0);
+        let wake = Event::new(3, 1, 0, 0, 0);
         assert_eq!(t.event(wake).moves, 1);
         assert_eq!(check(&before, wake, 1, &t), Ok(()));
         t.log[3] = 1 - flag as u16;

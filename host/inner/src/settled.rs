@@ -21,22 +21,12 @@ mod tests {
     use super::*;
     use binding::Event;
 
-    fn event(kind: u32, who: u32, a: u32, b: u32, mask: u64) -> Event {
-        Event {
-            kind,
-            who,
-            a,
-            b,
-            mask,
-        }
-    }
-
     /// Two CPUs; task 0 runs on CPU 0, and task 1 waits there, to which CPU 1 is not allowed.
     fn pinned() -> Tables {
         let mut t = Tables::fresh(2).expect("2 CPUs");
         for (who, prio) in [(0, 50), (1, 40)] {
-            assert_eq!(t.event(event(1, who, 1, prio, 1)).answer, 0);
-            assert_eq!(t.event(event(3, who, 0, 0, 0)).answer, 0);
+            assert_eq!(t.event(Event::new(1, who, 1, prio, 1)).answer, 0);
+            assert_eq!(t.event(Event::new(3, who, 0, 0, 0)).answer, 0);
         }
         t
     }
@@ -58,8 +48,8 @@ mod tests {
     #[test]
     fn an_equal_level_is_not_lower() {
         let mut t = pinned();
-        assert_eq!(t.event(event(1, 2, 1, 40, 2)).answer, 0);
-        assert_eq!(t.event(event(3, 2, 0, 0, 0)).answer, 0);
+        assert_eq!(t.event(Event::new(1, 2, 1, 40, 2)).answer, 0);
+        assert_eq!(t.event(Event::new(3, 2, 0, 0, 0)).answer, 0);
         t.mask[1] = 3;
         assert!(is_settled(&t));
     }

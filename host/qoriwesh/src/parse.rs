@@ -116,14 +116,14 @@ fn read_tick(rest: &[&str]) -> Result<Action, String> {
     if !(1..=MOST_TICKS).contains(&times) {
         return Err(format!("expected 1 to {MOST_TICKS} ticks, found {times}"));
     }
-    let event = event(7, cpu_number(cpu)?, 0, 0, 0);
+    let event = Event::new(7, cpu_number(cpu)?, 0, 0, 0);
     Ok(Action::Event { event, times })
 }
 
 fn read_event(command: &str, rest: &[&str]) -> Result<Event, String> {
     let of_task = |kind, form| -> Result<Event, String> {
         let [task] = exactly(rest, form)?;
-        Ok(event(kind, task_number(task)?, 0, 0, 0))
+        Ok(Event::new(kind, task_number(task)?, 0, 0, 0))
     };
     match command {
         "add" => read_add(rest),
@@ -132,19 +132,25 @@ fn read_event(command: &str, rest: &[&str]) -> Result<Event, String> {
         "sleep" => of_task(4, "sleep TASK"),
         "prio" => {
             let [task, prio] = exactly(rest, "prio TASK PRIORITY")?;
-            Ok(event(5, task_number(task)?, 0, priority(prio)?, 0))
+            Ok(Event::new(5, task_number(task)?, 0, priority(prio)?, 0))
         }
         "affinity" => {
             let [task, cpus] = exactly(rest, "affinity TASK CPUS")?;
-            Ok(event(6, task_number(task)?, 0, 0, cpulist::read(cpus)?))
+            Ok(Event::new(
+                6,
+                task_number(task)?,
+                0,
+                0,
+                cpulist::read(cpus)?,
+            ))
         }
         "yield" => {
             let [cpu] = exactly(rest, "yield CPU")?;
-            Ok(event(8, cpu_number(cpu)?, 0, 0, 0))
+            Ok(Event::new(8, cpu_number(cpu)?, 0, 0, 0))
         }
         "ordinary" => {
             let [cpu, flag] = exactly(rest, "ordinary CPU on|off")?;
-            Ok(event(9, cpu_number(cpu)?, 0, on_or_off(flag)?, 0))
+            Ok(Event::new(9, cpu_number(cpu)?, 0, on_or_off(flag)?, 0))
         }
         "event" => read_raw(rest),
         _ => Err(format!("expected {COMMANDS}, found {}", quoted(command))),
@@ -154,7 +160,7 @@ fn read_event(command: &str, rest: &[&str]) -> Result<Event, String> {
 fn read_add(rest: &[&str]) -> Result<Event, String> {
     let [task, class, prio, cpus] = exactly(rest, "add TASK POLICY PRIORITY CPUS")?;
     let (task, class, prio) = (task_number(task)?, policy(class)?, priority(prio)?);
-    Ok(event(1, task, class, prio, cpulist::read(cpus)?))
+    Ok(Event::new(1, task, class, prio, cpulist::read(cpus)?))
 }
 
 /// The five numbers as the library takes them, so that any event can be tried.
@@ -164,23 +170,13 @@ fn read_raw(rest: &[&str]) -> Result<Event, String> {
         Some(mask) => mask?,
         None => number(mask, "a mask")?,
     };
-    Ok(event(
+    Ok(Event::new(
         number(kind, "a kind of event")?,
         number(who, "a number")?,
         number(a, "a number")?,
         number(b, "a number")?,
         mask,
     ))
-}
-
-fn event(kind: u32, who: u32, a: u32, b: u32, mask: u64) -> Event {
-    Event {
-        kind,
-        who,
-        a,
-        b,
-        mask,
-    }
 }
 
 fn exactly<'a, const K: usize>(rest: &[&'a str], form: &str) -> Result<[&'a str; K], String> {
@@ -275,7 +271,7 @@ mod tests {
 
     fn is(line: &str, kind: u32, who: u32, a: u32, b: u32, mask: u64) {
         let expected = Action::Event {
-            event: event(kind, who, a, b, mask),
+            event: Event::new(kind, who, a, b, mask),
             times: 1,
         };
         assert_eq!(one(line), Ok(expected), "{line}");

@@ -3,7 +3,8 @@
 //! in with each event or check. W2 and kinds 1 and 7 use that number, and one out of range is refused with 1."
 
 use super::Step::{self, Check, Do, Left, Make, Rows, Slice, With};
-use super::{add, add_rr, event, fresh, refused, tick, wake, FIFO};
+use super::{add, add_rr, fresh, refused, tick, wake, FIFO};
+use binding::Event;
 
 /// A machine of one CPU with two equal RR tasks, and as many ticks as the full slice has: the last one ends the slice.
 fn whole_slice(make: Step, full_slice: u16) -> Vec<Step> {
@@ -69,9 +70,9 @@ fn out_of_range() -> Vec<Step> {
             refused(2, Some(full_slice)),
             With(full_slice),
             Check(1),
-            Do(event(3, 0, 0, 0, 0), 1),
-            Do(event(1, 1, FIFO, 50, 1), 1),
-            Do(event(7, 0, 0, 0, 0), 1),
+            Do(Event::new(3, 0, 0, 0, 0), 1),
+            Do(Event::new(1, 1, FIFO, 50, 1), 1),
+            Do(Event::new(7, 0, 0, 0, 0), 1),
         ]);
     }
     steps.extend([With(25), Check(0), Slice(0, 25), Slice(1, 0)]);
@@ -91,8 +92,8 @@ fn sixty_left() -> Vec<Step> {
         Check(0),
         With(50),
         Check(2),
-        Do(event(7, 0, 0, 0, 0), 2),
-        Do(event(4, 0, 0, 0, 0), 2),
+        Do(Event::new(7, 0, 0, 0, 0), 2),
+        Do(Event::new(4, 0, 0, 0, 0), 2),
         With(59),
         Check(2),
         With(60),
