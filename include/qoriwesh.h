@@ -52,6 +52,9 @@ extern "C" {
 #define QORIWESH_EVALUE 7    /* a priority, a flag or a level out of its range */
 #define QORIWESH_EMASK 8     /* an empty mask, or one with a CPU that is not there */
 #define QORIWESH_EEMPTY 9    /* a yield on a CPU with an empty row */
+#define QORIWESH_ENOWHERE 10 /* a runnable task, or one that wakes, would have no allowed CPU that is online */
+#define QORIWESH_EONLINE 11  /* a tick or a yield on an offline CPU; offline or online, and it is already so */
+#define QORIWESH_ELAST 12    /* the last online CPU is not taken offline */
 
 /* ---- events: kind, who, a, b, mask; numbers that a kind does not use are ignored ---- */
 
@@ -64,6 +67,8 @@ extern "C" {
 #define QORIWESH_TICK 7     /* a tick on CPU who: a SCHED_RR task whose slice ends goes behind its equals */
 #define QORIWESH_YIELD 8    /* the task that runs on CPU who yields */
 #define QORIWESH_ORDINARY 9 /* CPU who has ordinary work (b 1) or none (b 0) */
+#define QORIWESH_OFFLINE 10 /* CPU who goes offline: each of its tasks goes to its lowest-numbered online CPU */
+#define QORIWESH_ONLINE 11  /* CPU who is online again */
 
 /* ---- values in the tables ---- */
 
@@ -86,7 +91,7 @@ extern "C" {
 #define QORIWESH_LEVEL_IDLE 0
 #define QORIWESH_LEVEL_ORDINARY 1
 #define QORIWESH_LEVEL_PRIO(p) ((p) + 2) /* the level of a CPU that runs priority p */
-#define QORIWESH_LEVEL_INVALID 255       /* a CPU that is not there; no level found */
+#define QORIWESH_LEVEL_INVALID 255       /* a CPU that is not there or is offline; no level found */
 
 /*
  * The tables, in the order of the parameters, each with its length:
@@ -95,6 +100,7 @@ extern "C" {
  *   rows                                    n*512   row c from place 512*c on, in run
  *                                                   order: the first of a row runs
  *   counts, flags                           n       tasks in a row; ordinary work, 0 or 1
+ *   online                                  (one)   a word: bit c is set if CPU c is online
  *   log                                     252     moves of the last accepted event,
  *                                                   four numbers each
  *
@@ -112,7 +118,7 @@ extern "C" {
 
 /*
  * Makes the tables those of a fresh machine of n CPUs, whatever they held: all
- * places free, rows empty, flags 0, the log all 65535, every CPU idle.
+ * places free, rows empty, flags 0, the log all 65535, every CPU online and idle.
  *
  * 0 or QORIWESH_ESIZE. *made_slice is full_slice, or 0 on a refusal.
  */
@@ -127,6 +133,7 @@ uint8_t qoriwesh_make_fresh(
 	uint16_t *rows, size_t rows_len,
 	uint16_t *counts, size_t counts_len,
 	uint8_t *flags, size_t flags_len,
+	uint64_t *online,
 	uint16_t *log, size_t log_len,
 	uint64_t *level_masks, size_t level_masks_len,
 	uint8_t *level_counts, size_t level_counts_len,
@@ -148,6 +155,7 @@ uint8_t qoriwesh_make_fresh_default(
 	uint16_t *rows, size_t rows_len,
 	uint16_t *counts, size_t counts_len,
 	uint8_t *flags, size_t flags_len,
+	uint64_t *online,
 	uint16_t *log, size_t log_len,
 	uint64_t *level_masks, size_t level_masks_len,
 	uint8_t *level_counts, size_t level_counts_len,
@@ -171,6 +179,7 @@ uint8_t qoriwesh_check(
 	const uint16_t *rows, size_t rows_len,
 	const uint16_t *counts, size_t counts_len,
 	const uint8_t *flags, size_t flags_len,
+	const uint64_t *online,
 	const uint16_t *log, size_t log_len,
 	const uint64_t *level_masks, size_t level_masks_len,
 	const uint8_t *level_counts, size_t level_counts_len,
@@ -181,13 +190,16 @@ uint8_t qoriwesh_check(
  * One event, and then one migration after another until no waiting task may go
  * to a CPU of a lower level.
  *
- * 0: *moves is the number of migrations, at most n-1, and log entry i is
- * migration i: the task, the CPU it waited on, the CPU it went to, and the level
- * that this CPU had before (QORIWESH_LOG_TASK and so on). Entries from *moves on
- * are older. The tables are well-formed again, and no waiting task outranks what
- * runs on any CPU that it is allowed.
+ * 0: *moves is the number of migrations, fewer than there are CPUs online, and
+ * log entry i is migration i: the task, the CPU it waited on, the CPU it went to,
+ * and the level that this CPU had before (QORIWESH_LOG_TASK and so on). Entries
+ * from *moves on are older. The tables are well-formed again, and no waiting task
+ * outranks what runs on any online CPU that it is allowed.
  *
- * 1 to 9: refused, *moves is 0, and every table is as it was.
+ * That a task goes from a CPU that is taken offline is no migration: it stands in
+ * its row and its column, and not in the log.
+ *
+ * 1 to 12: refused, *moves is 0, and every table is as it was.
  */
 uint8_t qoriwesh_event(
 	size_t n, uint32_t full_slice,
@@ -200,6 +212,7 @@ uint8_t qoriwesh_event(
 	uint16_t *rows, size_t rows_len,
 	uint16_t *counts, size_t counts_len,
 	uint8_t *flags, size_t flags_len,
+	uint64_t *online,
 	uint16_t *log, size_t log_len,
 	uint64_t *level_masks, size_t level_masks_len,
 	uint8_t *level_counts, size_t level_counts_len,
@@ -239,6 +252,7 @@ struct qoriwesh_machine {
 	uint16_t rows[QORIWESH_CPUS * QORIWESH_TASKS];
 	uint16_t counts[QORIWESH_CPUS];
 	uint8_t flags[QORIWESH_CPUS];
+	uint64_t online;
 	uint16_t log[QORIWESH_LOG];
 	uint64_t level_masks[QORIWESH_LEVELS];
 	uint8_t level_counts[QORIWESH_LEVELS];
@@ -254,7 +268,7 @@ struct qoriwesh_machine {
 	(m)->slice, QORIWESH_TASKS, (m)->mask, QORIWESH_TASKS, \
 	(m)->rows, QORIWESH_TASKS * QORIWESH_LEND_CPUS(n), \
 	(m)->counts, QORIWESH_LEND_CPUS(n), (m)->flags, QORIWESH_LEND_CPUS(n), \
-	(m)->log, QORIWESH_LOG, \
+	&(m)->online, (m)->log, QORIWESH_LOG, \
 	(m)->level_masks, QORIWESH_LEVELS, (m)->level_counts, QORIWESH_LEVELS, \
 	(m)->level_words, QORIWESH_WORDS, (m)->levels, QORIWESH_CPUS
 

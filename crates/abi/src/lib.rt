@@ -33,6 +33,7 @@ pub extern "C" fn qoriwesh_make_fresh(
     rows: &mut [u16],
     counts: &mut [u16],
     flags: &mut [u8],
+    online: &mut u64,
     log: &mut [u16],
     level_masks: &mut [u64],
     level_counts: &mut [u8],
@@ -42,8 +43,8 @@ pub extern "C" fn qoriwesh_make_fresh(
 ) -> u8
     ensures { λ a. let r = oldRecord «level_masks» «level_counts» «level_words» levels in
         let q = newRecord «level_masks» «level_counts» «level_words» levels in
-        let s = oldTables full state policy prio cpu slice mask rows counts flags log in
-        let t = newTables full state policy prio cpu slice mask rows counts flags log in
+        let s = oldTables full state policy prio cpu slice mask rows counts flags online log in
+        let t = newTables full state policy prio cpu slice mask rows counts flags online log in
         ⌜ result a 0 q t ≡ lentMade n r s ⌝
         ∗ ⌜ new handed ≡ handedBack a full ⌝ }
 {
@@ -69,6 +70,7 @@ pub extern "C" fn qoriwesh_make_fresh(
         rows,
         counts,
         flags,
+        online,
         log,
         given,
     );
@@ -90,6 +92,7 @@ pub extern "C" fn qoriwesh_make_fresh_default(
     rows: &mut [u16],
     counts: &mut [u16],
     flags: &mut [u8],
+    online: &mut u64,
     log: &mut [u16],
     level_masks: &mut [u64],
     level_counts: &mut [u8],
@@ -99,8 +102,8 @@ pub extern "C" fn qoriwesh_make_fresh_default(
 ) -> u8
     ensures { λ a. let r = oldRecord «level_masks» «level_counts» «level_words» levels in
         let q = newRecord «level_masks» «level_counts» «level_words» levels in
-        let s = oldTables defaultSlice state policy prio cpu slice mask rows counts flags log in
-        let t = newTables defaultSlice state policy prio cpu slice mask rows counts flags log in
+        let s = oldTables defaultSlice state policy prio cpu slice mask rows counts flags online log in
+        let t = newTables defaultSlice state policy prio cpu slice mask rows counts flags online log in
         ⌜ result a 0 q t ≡ lentMade n r s ⌝
         ∗ ⌜ new handed ≡ handedBack a defaultSlice ⌝ }
 {
@@ -116,6 +119,7 @@ pub extern "C" fn qoriwesh_make_fresh_default(
         rows,
         counts,
         flags,
+        online,
         log,
         level_masks,
         level_counts,
@@ -140,6 +144,7 @@ pub extern "C" fn qoriwesh_check(
     rows: &[u16],
     counts: &[u16],
     flags: &[u8],
+    online: &u64,
     log: &[u16],
     level_masks: &[u64],
     level_counts: &[u8],
@@ -147,7 +152,7 @@ pub extern "C" fn qoriwesh_check(
     levels: &[u8],
 ) -> u8
     ensures { λ a. let r = oldRecord «level_masks» «level_counts» «level_words» levels in
-        ⌜ a ≡ lentChecked n r (oldTables full state policy prio cpu slice mask rows counts flags log) ⌝ }
+        ⌜ a ≡ lentChecked n r (oldTables full state policy prio cpu slice mask rows counts flags online log) ⌝ }
 {
     if !lengths_fit(
         level_masks.len(),
@@ -170,12 +175,13 @@ pub extern "C" fn qoriwesh_check(
         rows,
         counts,
         flags,
+        online,
         log,
         record,
     )
 }
 
-// One event on any tables: 0 with the number of moves, or a refusal, 1 to 9, with 0 moves, which changes
+// One event on any tables: 0 with the number of moves, or a refusal, 1 to 12, with 0 moves, which changes
 // nothing.
 #[no_mangle]
 pub extern "C" fn qoriwesh_event(
@@ -190,6 +196,7 @@ pub extern "C" fn qoriwesh_event(
     rows: &mut [u16],
     counts: &mut [u16],
     flags: &mut [u8],
+    online: &mut u64,
     log: &mut [u16],
     level_masks: &mut [u64],
     level_counts: &mut [u8],
@@ -204,8 +211,8 @@ pub extern "C" fn qoriwesh_event(
 ) -> u8
     ensures { λ o. let r = oldRecord «level_masks» «level_counts» «level_words» levels in
         let q = newRecord «level_masks» «level_counts» «level_words» levels in
-        let s = oldTables full state policy prio cpu slice mask rows counts flags log in
-        let t = newTables full state policy prio cpu slice mask rows counts flags log in
+        let s = oldTables full state policy prio cpu slice mask rows counts flags online log in
+        let t = newTables full state policy prio cpu slice mask rows counts flags online log in
         let e = numbers kind who a b k in
         ⌜ result o (new moves) q t ≡ lentHandled n r s e ⌝
         ∗ ⌜ (o ≡ 0 → LentDemand3 n (new moves) (effect e (machineOf n s)) t) ⌝
@@ -233,6 +240,7 @@ pub extern "C" fn qoriwesh_event(
         rows,
         counts,
         flags,
+        online,
         log,
         kind,
         who,

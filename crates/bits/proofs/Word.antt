@@ -4,11 +4,11 @@ use mathlib.Core.Path.{_≡_, refl, sym, ap, ap₂, _∙_}
 use mathlib.Core.Bool.{Bool, true, false, cond, _&&_}
 use mathlib.Core.Logic.{_≢_}
 use Prim.Native.Nat.{ℕ, zero, suc, _+_, _-_, _*_, _/_, _%_, _^_, _≤_, _<_, min, max, zero-le}
-use native.Mathlib.Nat.{div-eq-of-lt, lt-of-lt-of-le, zero-lt-suc, le-of-suc-le-suc, not-suc-le-zero, mod-eq-of-lt, one-mul}
+use native.Mathlib.Nat.{div-eq-of-lt, lt-of-lt-of-le, zero-lt-suc, le-of-suc-le-suc, not-suc-le-zero, mod-eq-of-lt, one-mul, suc-mul}
 use native.Mathlib.Omega.{arith}
-use lib.Arith.{lt-one}
+use lib.Arith.{lt-one, digits-div}
 use lib.Bits.{bitAnd, bitOr, and-step, or-step, and-mask, or-zero-r}
-use lib.Pow.{pow-mono, pow-lt}
+use lib.Pow.{pow-mono, pow-lt, pow-add, pow-pos}
 use Rattle.bits.specs.Bit.{bit, withBit, withoutBit, putBit, digit}
 use Rattle.bits.proofs.Digits.{digit-bit, digit-lt, split, bit-suc, bit-low, bit-rest, put-zero, put-suc}
 
@@ -128,3 +128,20 @@ and-not (suc k) m (suc c) n h hc e =
     let rest-is : bitAnd (m / 2) (n / 2) ≡ withoutBit (m / 2) c = and-not k (m / 2) c (n / 2) (half-lt k m h) (le-of-suc-le-suc hc) half in
     let put : withoutBit m (suc c) ≡ digit (bit m 0) + 2 * withoutBit (m / 2) c = put-suc false m c in
     omega (arith, digit-bit m)
+
+-- the word of all ones, shifted: the bits below k are set
+pub ones-shifted : (k : ℕ) → k ≤ 64 → (2 ^ 64 - 1) / 2 ^ (64 - k) ≡ 2 ^ k - 1
+ones-shifted k h = ap (λ (x : ℕ). x / 2 ^ (64 - k)) split ∙ digits-div (2 ^ k - 1) (omega (arith, pow-pos (64 - k)))
+  where
+    parts : 2 ^ 64 ≡ 2 ^ k * 2 ^ (64 - k)
+    parts = let whole : 64 ≡ k + (64 - k) = omega arith in ap (λ (x : ℕ). 2 ^ x) whole ∙ pow-add 2 k (64 - k)
+
+    split : 2 ^ 64 - 1 ≡ (2 ^ k - 1) * 2 ^ (64 - k) + (2 ^ (64 - k) - 1)
+    split = go (2 ^ 64) (2 ^ k) (2 ^ (64 - k)) parts (pow-pos k) (pow-pos (64 - k))
+      where
+        go : (w a b : ℕ) → w ≡ a * b → 1 ≤ a → 1 ≤ b → w - 1 ≡ (a - 1) * b + (b - 1)
+        go w zero b e p q = absurd (omega arith)
+        go w (suc a) b e p q =
+            let one-more : suc a * b ≡ a * b + b = suc-mul a b in
+            let one-less : (suc a - 1) * b ≡ a * b = ap (λ (x : ℕ). x * b) (omega arith) in
+            omega (arith, one-more, one-less)

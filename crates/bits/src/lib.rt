@@ -1,7 +1,7 @@
 // 64-bit words as sets of numbers below 64, as kernel bitmaps are: test, set and clear a bit, the
 // lowest set bit, and how many are set. Each function is one or two instructions.
 ghost use mathlib.Core.Path.{_≡_};
-ghost use Prim.Native.Nat.{_<_};
+ghost use Prim.Native.Nat.{_-_, _^_, _≤_, _<_};
 ghost use Rattle.bits.specs.Bit.{bit, withBit, withoutBit, putBit, lowest, weight};
 
 // Whether bit c of m is set.
@@ -48,4 +48,13 @@ pub fn count_bits(m: u64) -> u32
     ensures { λ r. ⌜ r ≡ weight 64 m ⌝ }
 {
     u64::count_ones(m)
+}
+
+// The word whose bits below k are set.
+pub fn all_below(k: usize) -> u64
+    requires { ⌜ 1 ≤ k ⌝ }
+    requires { ⌜ k ≤ 64 ⌝ }
+    ensures { λ r. ⌜ r ≡ 2 ^ k - 1 ⌝ }
+{
+    u64::MAX >> (64 - k)
 }

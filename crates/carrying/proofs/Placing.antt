@@ -11,10 +11,12 @@ use lib.Seq.{getD-set-same, getD-set-other, set-getD}
 use Rattle.cpupri.specs.Record.{recordOf, Whole}
 use Rattle.levels.specs.declared.record.Record.{Record}
 use Rattle.rules.specs.Lists.{In}
-use Rattle.rules.specs.Machine.{Machine, Task, taskOf, prioOf, row, flag, level, levels, rowLevel, levelOf, build, write, enqueueAt, dequeue, runnable, taskPlaces, highestPriority}
+use Rattle.rules.specs.Machine.{Machine, Task, taskOf, prioOf, row, isOnline, idleLevel, level, levels, rowLevel, levelOf, build, write, enqueueAt, dequeue, runnable, taskPlaces, highestPriority}
 use Rattle.rules.specs.Plan.{Plan, left, wrote, carried, When}
 use Rattle.rules.specs.WellFormed.{WellFormed}
+use Rattle.bits.specs.Bit.{bit}
 use Rattle.laws.proofs.Lists.{in-here}
+use Rattle.laws.proofs.Online.{row-online}
 use Rattle.laws.proofs.Apart.{Apart, apart-idle, apart-dequeue, apart-write, room, in-row, in-other}
 use Rattle.laws.proofs.Rows.{row-other}
 use Rattle.placement.specs.Held.{InOrder, Queues, Following, followed}
@@ -44,7 +46,7 @@ module _ (t : ℕ) (τ : Task) (m : Machine) where
   abbrev written : List ℕ → Machine
   written ps =
       build (m .n) (m .full) (set (m .state) t (τ .state)) (set (m .policy) t (τ .policy)) ps (set (m .cpu) t (τ .cpu)) (set (m .slice) t (τ .slice))
-      (set (m .mask) t (τ .mask)) (m .rows) (m .flags)
+      (set (m .mask) t (τ .mask)) (m .rows) (m .flags) (m .online)
 
   same-prio : τ .prio ≡ prioOf m t → set (m .prio) t (τ .prio) ≡ m .prio
   same-prio e = ap (set (m .prio) t) e ∙ simp set-getD
@@ -68,7 +70,7 @@ module _ (t : ℕ) (τ : Task) (m : Machine) where
 
   level-write : Free t τ m → (c : ℕ) → level (write t τ m) c ≡ level m c
   level-write (inl a) c =
-      row-level-cong (prioOf (write t τ m)) (prioOf m) (flag m c) (row m c) (λ u i. getD-set-other (m .prio) t u (τ .prio) 0 (in-other t m a c u i))
+      row-level-cong (prioOf (write t τ m)) (prioOf m) (idleLevel m c) (row m c) (λ u i. getD-set-other (m .prio) t u (τ .prio) 0 (in-other t m a c u i))
   level-write (inr e) c = ap (λ (ps : List ℕ). level (written ps) c) (same-prio e)
 
 -- ---- a plan
@@ -141,6 +143,9 @@ module _ {m : Machine} {ss ps qs cs ls ks flat ns fs : List ℕ} {r : Record} {p
   flags-kept : carried p m .flags ≡ m .flags
   flags-kept = entered-keeps (λ d. d .flags) (λ c d. refl) ∙ left-keeps (λ d. d .flags) (λ c d. refl)
 
+  online-kept : carried p m .online ≡ m .online
+  online-kept = entered-keeps (λ d. d .online) (λ c d. refl) ∙ left-keeps (λ d. d .online) (λ c d. refl)
+
   -- a column that only the writing changes
   column : (f : Machine → List ℕ) (v : ℕ) → ((d : Machine) → f (write t (p .becomes) d) ≡ set (f d) t v)
       → ((c : ℕ) (d : Machine) → f (enqueueAt (p .front) t c d) ≡ f d) → ((c : ℕ) (d : Machine) → f (dequeue t c d) ≡ f d) → set (f m) t v ≡ f (carried p m)
@@ -159,7 +164,7 @@ module _ {m : Machine} {ss ps qs cs ls ks flat ns fs : List ℕ} {r : Record} {p
     pub enters : EnteringIf (p .enters) (wrote p m) qs′ ns′ flat′ (p .task) (p .target)
     enters = record { queues = wrote-queues; prio = prio-is; task = l .ready .task; may = go (p .enters) refl (l .ready .enters) apart }
       where
-        go : (b : Bool) → p .enters ≡ b → When b ((p .target < m .n) × (p .becomes .prio ≤ highestPriority))
+        go : (b : Bool) → p .enters ≡ b → When b ((p .target < m .n) × (isOnline m (p .target) ≡ true) × (p .becomes .prio ≤ highestPriority))
             → Apart t (left p m) ⊎ ((p .becomes .prio ≡ prioOf (left p m) t) × (p .enters ≡ false))
             → When b ((p .target < wrote p m .n) × (prioOf (wrote p m) t ≤ highestPriority) × (length (row (wrote p m) (p .target)) < taskPlaces))
         go false q e a = tt
@@ -167,7 +172,7 @@ module _ {m : Machine} {ss ps qs cs ls ks flat ns fs : List ℕ} {r : Record} {p
         go true q e (inl a) =
             let here : t < length (left p m .prio) = omega (arith, a .shape .prio, l .ready .task) in (
               subst (λ (x : ℕ). p .target < x) (sym (left-keeps (λ d. d .n) (λ c d. refl))) (e .0),
-              subst (λ (x : ℕ). x ≤ highestPriority) (sym (getD-set-same (left p m .prio) t (p .becomes .prio) 0 here)) (e .1),
+              subst (λ (x : ℕ). x ≤ highestPriority) (sym (getD-set-same (left p m .prio) t (p .becomes .prio) 0 here)) (e .2),
               room t (wrote p m) (apart-write t (left p m) a (p .becomes)) (l .ready .task) (p .target),
             )
 
@@ -177,14 +182,15 @@ module _ {m : Machine} {ss ps qs cs ls ks flat ns fs : List ℕ} {r : Record} {p
       prio-now : qs′ ≡ carried p m .prio
       prio-now = prio-is ∙ sym (entered-keeps (λ d. d .prio) (λ c d. refl))
 
-      following : (c : ℕ) → c < m .n → Following (carried p m) qs′ fs ns″ flat″ c
-      following c h =
+      following : (c : ℕ) → c < m .n → isOnline m c ≡ true → Following (carried p m) qs′ fs ns″ flat″ c
+      following c h up =
           record {
             queues = e;
             prio = prio-now;
             flags = l .holds .flags ∙ sym flags-kept;
             flag-count = ap length flags-kept ∙ l .formed .shape .flags ∙ sym cpus-kept;
             cpu = subst (λ (x : ℕ). c < x) (sym cpus-kept) h;
+            online = subst (λ (x : ℕ). bit x c ≡ true) (sym online-kept) up;
           }
 
       in-origin : When (p .leaves) (p .origin < m .n)
@@ -197,30 +203,36 @@ module _ {m : Machine} {ss ps qs cs ls ks flat ns fs : List ℕ} {r : Record} {p
       in-target : When (p .enters) (p .target < m .n)
       in-target = go (p .enters) (l .ready .enters)
         where
-          go : (b : Bool) → When b ((p .target < m .n) × (p .becomes .prio ≤ highestPriority)) → When b (p .target < m .n)
+          go : (b : Bool) → When b ((p .target < m .n) × (isOnline m (p .target) ≡ true) × (p .becomes .prio ≤ highestPriority)) → When b (p .target < m .n)
           go true h = h .0
           go false h = tt
 
-      follows : (b : Bool) (c : ℕ) → When b (c < m .n) → FollowingIf b (carried p m) qs′ fs ns″ flat″ c
-      follows true c h = record { may = following c h }
-      follows false c h = record { may = tt }
-
+      -- a task stood where it left
       pub follows-origin : FollowingIf (p .leaves) (carried p m) qs′ fs ns″ flat″ (p .origin)
-      follows-origin = follows (p .leaves) (p .origin) in-origin
+      follows-origin = go (p .leaves) (l .ready .leaves)
+        where
+          go : (b : Bool) → When b ((p .origin < m .n) × In t (row m (p .origin))) → FollowingIf b (carried p m) qs′ fs ns″ flat″ (p .origin)
+          go true h = record { may = following (p .origin) (h .0) (row-online m t (p .origin) (l .formed) (h .1)) }
+          go false h = record { may = tt }
 
       pub follows-target : FollowingIf (p .enters) (carried p m) qs′ fs ns″ flat″ (p .target)
-      follows-target = follows (p .enters) (p .target) in-target
+      follows-target = go (p .enters) (l .ready .enters)
+        where
+          go : (b : Bool) → When b ((p .target < m .n) × (isOnline m (p .target) ≡ true) × (p .becomes .prio ≤ highestPriority))
+              → FollowingIf b (carried p m) qs′ fs ns″ flat″ (p .target)
+          go true h = record { may = following (p .target) (h .0) (h .1) }
+          go false h = record { may = tt }
 
       -- no other CPU's level changed
       others : (c : ℕ) → c < m .n → (p .leaves ≡ true → c ≢ p .origin) → (p .enters ≡ true → c ≢ p .target) → level (carried p m) c ≡ level m c
       others c h away apart-from = entered (p .enters) apart-from ∙ level-write t (p .becomes) (left p m) free c ∙ gone (p .leaves) away
         where
           entered : (b : Bool) → (b ≡ true → c ≢ p .target) → level (cond b (enqueueAt (p .front) t (p .target) (wrote p m)) (wrote p m)) c ≡ level (wrote p m) c
-          entered true n = ap (rowLevel (prioOf (wrote p m)) (flag (wrote p m) c)) (row-other (wrote p m) (p .target) c _ (n refl))
+          entered true n = ap (rowLevel (prioOf (wrote p m)) (idleLevel (wrote p m) c)) (row-other (wrote p m) (p .target) c _ (n refl))
           entered false n = refl
 
           gone : (b : Bool) → (b ≡ true → c ≢ p .origin) → level (cond b (dequeue t (p .origin) m) m) c ≡ level m c
-          gone true n = ap (rowLevel (prioOf m) (flag m c)) (row-other m (p .origin) c _ (n refl))
+          gone true n = ap (rowLevel (prioOf m) (idleLevel m c)) (row-other m (p .origin) c _ (n refl))
           gone false n = refl
 
       -- both CPUs' levels followed
@@ -236,7 +248,7 @@ module _ {m : Machine} {ss ps qs cs ls ks flat ns fs : List ℕ} {r : Record} {p
       pub placed : {ss′ ps′ cs′ cs″ ls′ ks′ : List ℕ} {r′ r″ : Record} → ss′ ≡ set ss (p .task) (p .becomes .state) → ps′ ≡ set ps (p .task) (p .becomes .policy)
           → cs′ ≡ set cs (p .task) (p .becomes .cpu) → ls′ ≡ set ls (p .task) (p .becomes .slice) → ks′ ≡ set ks (p .task) (p .becomes .mask)
           → cs″ ≡ cond (p .enters) (set cs′ (p .task) (p .target)) cs′ → r′ ≡ recordOf (followed (p .leaves) (p .origin) (carried p m) (r .levels))
-          → r″ ≡ recordOf (followed (p .enters) (p .target) (carried p m) (r′ .levels)) → Holds (carried p m) ss′ ps′ qs′ cs″ ls′ ks′ flat″ ns″ fs r″
+          → r″ ≡ recordOf (followed (p .enters) (p .target) (carried p m) (r′ .levels)) → Holds (carried p m) ss′ ps′ qs′ cs″ ls′ ks′ flat″ ns″ fs (m .online) r″
       placed es ep ec el ek ed e′ e″ =
           record {
             state = es ∙ at (p .becomes .state) (l .holds .state) ∙ column (λ d. d .state) (p .becomes .state) (λ d. refl) (λ c d. refl) (λ c d. refl);
@@ -248,6 +260,7 @@ module _ {m : Machine} {ss ps qs cs ls ks flat ns fs : List ℕ} {r : Record} {p
             rows = e .rows;
             counts = e .counts;
             flags = l .holds .flags ∙ sym flags-kept;
+            online = sym online-kept;
             levels = levels-are e′ e″;
           }
         where

@@ -1,5 +1,5 @@
 // A decision is carried out, whatever the kind of event: a task leaves its row or not, its columns are written, it enters a row or
-// not, and the levels of those rows' CPUs follow.
+// not, and the levels of those rows' CPUs follow; or a CPU's flag is set, or the CPU goes or comes back.
 ghost use Rattle.bits.specs.Moments.{old, new};
 ghost use Rattle.levels.specs.Lent.{nowRecord, oldRecord, newRecord};
 ghost use Rattle.rules.specs.Machine.{Machine};
@@ -9,6 +9,8 @@ ghost use Rattle.carrying.specs.Holds.{Holds, Carriable, Placeable};
 use cpupri::record::CPUS;
 use cpupri::record::LEVELS;
 use cpupri::record::WORDS;
+use evacuation::bring_online;
+use evacuation::take_offline;
 use parts::enter_if;
 use parts::follow_if;
 use parts::leave_if;
@@ -27,6 +29,7 @@ pub fn carry_out(
     rows: &mut [u16],
     counts: &mut [u16],
     flags: &mut [u8],
+    online: &mut u64,
     masks: &mut [u64; LEVELS],
     tallies: &mut [u8; LEVELS],
     words: &mut [u64; WORDS],
@@ -35,13 +38,14 @@ pub fn carry_out(
 )
     requires { let r = nowRecord masks tallies words levels in
         ⌜ ((m : Machine) × Carriable m (now state) (now policy) (now prio) (now cpu) (now slice) (now mask)
-        (now rows) (now counts) (now flags) r decision) ⌝ }
+        (now rows) (now counts) (now flags) (now online) r decision) ⌝ }
     ensures { λ u. let r = oldRecord masks tallies words levels in
         let q = newRecord masks tallies words levels in
         ⌜ ((m : Machine)
-        → Carriable m (old state) (old policy) (old prio) (old cpu) (old slice) (old mask) (old rows) (old counts) (old flags) r decision
+        → Carriable m (old state) (old policy) (old prio) (old cpu) (old slice) (old mask) (old rows) (old counts) (old flags)
+        (old online) r decision
         → Holds (did decision m) (new state) (new policy) (new prio) (new cpu) (new slice) (new mask)
-        (new rows) (new counts) (new flags) q) ⌝ }
+        (new rows) (new counts) (new flags) (new online) q) ⌝ }
 {
     match decision {
         Decision::Place(plan) => place(
@@ -65,12 +69,39 @@ pub fn carry_out(
             rows,
             counts,
             flags,
+            *online,
             masks,
             tallies,
             words,
             levels,
             at,
             work,
+        ),
+        Decision::Offline { cpu: at } => take_offline(
+            prio,
+            cpu,
+            mask,
+            rows,
+            counts,
+            flags,
+            online,
+            masks,
+            tallies,
+            words,
+            levels,
+            at,
+        ),
+        Decision::Online { cpu: at } => bring_online(
+            prio,
+            rows,
+            counts,
+            flags,
+            online,
+            masks,
+            tallies,
+            words,
+            levels,
+            at,
         ),
         Decision::Refused(_) => {}
         Decision::Nothing => {}
@@ -102,7 +133,7 @@ fn place(
         ⌜ ((m : Machine)
         → Placeable m (old state) (old policy) (old prio) (old cpu) (old slice) (old mask) (old rows) (old counts) (old flags) r p
         → Holds (carried p m) (new state) (new policy) (new prio) (new cpu) (new slice) (new mask)
-        (new rows) (new counts) (old flags) q) ⌝ }
+        (new rows) (new counts) (old flags) (m .online) q) ⌝ }
 {
     let becomes = plan.becomes;
     leave_if(plan.leaves, rows, counts, plan.origin, plan.task);

@@ -50,14 +50,16 @@ pub fn set_priority(named: Task, who: u32, b: u32) -> Decision
 }
 
 // Kind 6. Asleep, or its CPU still allowed: the mask only. Else the task leaves its row and enters that
-// of the lowest-numbered allowed CPU.
-pub fn set_affinity(n: usize, named: Task, who: u32, k: u64) -> Decision
+// of the lowest-numbered allowed CPU that is online.
+pub fn set_affinity(n: usize, online: u64, named: Task, who: u32, k: u64) -> Decision
     requires { ⌜ n ≤ cpuPlaces ⌝ }
     requires { ⌜ ((m : Machine) × Named m who named) ⌝ }
-    ensures { λ r. ⌜ ((m : Machine) (kind a b : ℕ) → n ≡ m .n → Named m who named → DecidedAs set-affinity m (event kind who a b k) r) ⌝ }
+    ensures { λ r. ⌜ ((m : Machine) (kind a b : ℕ) → n ≡ m .n → online ≡ m .online → Named m who named
+        → DecidedAs set-affinity m (event kind who a b k) r) ⌝ }
 {
     let fits = mask_fits(n, k);
-    let lowest = bits::lowest_bit(k);
+    let up = k & online;
+    let lowest = bits::lowest_bit(up);
     if PLACES <= who as usize {
         return Decision::Refused(answer::BAD_NUMBER);
     }
@@ -78,8 +80,11 @@ pub fn set_affinity(n: usize, named: Task, who: u32, k: u64) -> Decision
     if named.state != task::RUNNABLE {
         return Decision::Place(Plan::rewrite(who as u16, becomes));
     }
+    if up == 0 {
+        return Decision::Refused(answer::NOWHERE);
+    }
     let home = named.cpu as usize;
-    if bits::test_bit(k, home) {
+    if bits::test_bit(up, home) {
         return Decision::Place(Plan::rewrite(who as u16, becomes));
     }
     Decision::Place(Plan::shift(who as u16, home, becomes, lowest as usize))

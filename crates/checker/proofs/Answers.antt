@@ -3,7 +3,7 @@
 use mathlib.Core.Path.{_≡_, refl, sym, ap, ap₂, _∙_}
 use mathlib.Core.Bool.{Bool, true, false, cond, not}
 use mathlib.Core.List.{List, [], _∷_, _++_}
-use Prim.Native.Nat.{ℕ, zero, suc, _+_, _*_}
+use Prim.Native.Nat.{ℕ, zero, suc, _+_, _-_, _*_, _^_}
 use native.Mathlib.Omega.{arith}
 use lib.ListN.{length, replicate, replicate-append-replicate}
 use Rattle.cpupri.specs.Record.{recordOf, freshLevels}
@@ -44,7 +44,7 @@ counts-empty (suc n) = ap (λ (t : List ℕ). 0 ∷ t) (counts-empty n)
 -- ---- a fresh machine
 
 -- what is filled in is a fresh machine's
-pub record Blank (s t : Tables) : Type 0 where
+pub record Blank (n : ℕ) (s t : Tables) : Type 0 where
   pub full : t .full ≡ s .full
   pub state : t .state ≡ replicate (length (s .state)) 0
   pub policy : t .policy ≡ replicate (length (s .policy)) 0
@@ -56,8 +56,9 @@ pub record Blank (s t : Tables) : Type 0 where
   pub counts : t .counts ≡ replicate (length (s .counts)) 0
   pub flags : t .flags ≡ replicate (length (s .flags)) 0
   pub log : t .log ≡ replicate (length (s .log)) nothing
+  pub online : t .online ≡ 2 ^ n - 1
 
-pub made-blank : (n : ℕ) (r q : Record) (s t : Tables) → lengthsFit n s ≡ true → Blank s t → q ≡ recordOf (freshLevels n) → kept 0 q t ≡ made n r s
+pub made-blank : (n : ℕ) (r q : Record) (s t : Tables) → lengthsFit n s ≡ true → Blank n s t → q ≡ recordOf (freshLevels n) → kept 0 q t ≡ made n r s
 made-blank n r q s t h b e = filled ∙ sym (made-fresh n r s h)
   where
     sized : Shape (machineOf n s) × (length (s .rows) ≡ taskPlaces * n) × (length (s .counts) ≡ n) × (length (s .log) ≡ logPlaces)
@@ -117,6 +118,7 @@ made-blank n r q s t h b e = filled ∙ sym (made-fresh n r s h)
             rows = rows i;
             counts = counts i;
             flags = flags i;
+            online = b .online i;
             log = log i;
           };
         }

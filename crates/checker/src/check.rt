@@ -10,6 +10,7 @@ ghost use Rattle.rules.specs.Entry.{checked};
 ghost use Rattle.bits.specs.Moments.{old};
 ghost use Rattle.lenttables.specs.Lent.{lent, oldTables};
 use cpupri::consistent::is_consistent;
+use cpupri::find::mask_fits;
 use cpupri::record::Record;
 use lenttables::lengths_fit;
 use rules::answer::ACCEPTED;
@@ -32,10 +33,11 @@ pub fn check(
     rows: &[u16],
     counts: &[u16],
     flags: &[u8],
+    online: &u64,
     log: &[u16],
     record: Record,
 ) -> u8
-    ensures { λ a. ⌜ a ≡ checked n «record» (oldTables full state policy prio cpu slice mask rows counts flags log) ⌝ }
+    ensures { λ a. ⌜ a ≡ checked n «record» (oldTables full state policy prio cpu slice mask rows counts flags online log) ⌝ }
 {
     if !lengths_fit(
         n,
@@ -65,6 +67,7 @@ pub fn check(
         rows,
         counts,
         flags,
+        *online,
         record,
     ) {
         return ILL_FORMED;
@@ -72,7 +75,7 @@ pub fn check(
     ACCEPTED
 }
 
-// W1 to W6 of tables that have their lengths; the log may hold anything.
+// W1 to W6 of tables that have their lengths, and the online mask; the log may hold anything.
 pub fn tables_fit(
     n: usize,
     full: u32,
@@ -85,17 +88,18 @@ pub fn tables_fit(
     rows: &[u16],
     counts: &[u16],
     flags: &[u8],
+    online: u64,
     record: Record,
 ) -> bool
     requires { ⌜ Shape (machineOf n (lent full (now state) (now policy) (now prio) (now cpu) (now slice) (now mask)
-        (now rows) (now counts) (now flags) [])) ⌝ }
+        (now rows) (now counts) (now flags) online [])) ⌝ }
     requires { ⌜ length (now rows) ≡ taskPlaces * n ⌝ }
     requires { ⌜ length (now counts) ≡ n ⌝ }
     ensures { λ b. ⌜ b ≡ tablesFit n «record» (lent full (old state) (old policy) (old prio) (old cpu) (old slice) (old mask)
-        (old rows) (old counts) (old flags) []) ⌝ }
+        (old rows) (old counts) (old flags) online []) ⌝ }
 {
     let levels = record.levels;
-    let placed = rows_fit(n, state, prio, cpu, rows, counts, flags, levels);
+    let placed = rows_fit(n, state, prio, cpu, rows, counts, flags, online, levels);
     if !placed.fit {
         return false;
     }
@@ -107,5 +111,17 @@ pub fn tables_fit(
         &record.words,
         &record.levels,
     );
-    columns_fit(n, full, state, policy, prio, cpu, slice, mask, &marks) & consistent
+    let columns = columns_fit(
+        n,
+        full,
+        online,
+        state,
+        policy,
+        prio,
+        cpu,
+        slice,
+        mask,
+        &marks,
+    );
+    columns & consistent & mask_fits(n, online)
 }

@@ -2,6 +2,7 @@
 ghost use mathlib.Core.Path.{_≡_};
 ghost use Rattle.rules.specs.Entry.{kept, made, handedBack};
 ghost use Rattle.lenttables.specs.Lent.{oldTables, newTables};
+use bits::all_below;
 use blank::empty_rows;
 use blank::free_tasks;
 use cpupri::record::Record;
@@ -16,8 +17,8 @@ pub struct Made {
     pub record: Record,
 }
 
-// All places free, rows empty, flags 0, every log number 65535, whatever the tables held; a full slice has so many
-// ticks. Refused with 1 if N, the full slice or a length does not fit; then nothing changes and the record given
+// All places free, rows empty, flags 0, all CPUs online, every log number 65535, whatever the tables held; a full slice
+// has so many ticks. Refused with 1 if N, the full slice or a length does not fit; then nothing changes and the record given
 // comes back.
 pub fn make_fresh(
     n: usize,
@@ -31,11 +32,12 @@ pub fn make_fresh(
     rows: &mut [u16],
     counts: &mut [u16],
     flags: &mut [u8],
+    online: &mut u64,
     log: &mut [u16],
     record: Record,
 ) -> Made
-    ensures { λ m. let s = oldTables full state policy prio cpu slice mask rows counts flags log in
-        let t = newTables full state policy prio cpu slice mask rows counts flags log in
+    ensures { λ m. let s = oldTables full state policy prio cpu slice mask rows counts flags online log in
+        let t = newTables full state policy prio cpu slice mask rows counts flags online log in
         ⌜ kept (m .answer) (m .«record») t ≡ made n «record» s ⌝
         ∗ ⌜ m .full ≡ handedBack (m .answer) full ⌝ }
 {
@@ -61,6 +63,7 @@ pub fn make_fresh(
     }
     free_tasks(state, policy, prio, cpu, slice, mask);
     empty_rows(rows, counts, flags, log);
+    *online = all_below(n);
     Made {
         answer: ACCEPTED,
         full,

@@ -11,17 +11,18 @@ use native.Mathlib.Omega.{arith}
 use lib.Dec.{eqb, ltb}
 use lib.ListN.{length, getD, set}
 use lib.Seq.{set-getD}
-use borrow.Author.Tests.{eqb-true, eqb-false, eq-eqb, ne-eqb}
-use Rattle.bits.specs.Bit.{lowest}
+use borrow.Author.Tests.{eqb-true, eqb-false, eq-eqb, ne-eqb, ltb-true}
+use Rattle.bits.specs.Bit.{bit, lowest}
 use Rattle.cpupri.specs.Found.{lowestLevel, allowedAt}
 use Rattle.cpupri.specs.Record.{masksOf}
 use Rattle.rules.specs.Lists.{In, delete}
-use Rattle.rules.specs.Machine.{Machine, taskOf, prioOf, row, flag, level, levels, levelOf, rowLevel, allowed, dequeue, runnable, taskPlaces, highestPriority}
+use Rattle.rules.specs.Machine.{Machine, taskOf, prioOf, row, isOnline, idleLevel, level, levels, levelOf, rowLevel, allowed, dequeue, runnable, taskPlaces, highestPriority}
 use Rattle.rules.specs.Migration.{Move, Chosen, waiting, movable, mover, moveOf, nextOf, destination, next}
 use Rattle.rules.specs.Tables.{nothing}
 use Rattle.rules.specs.WellFormed.{WellFormed, Fit}
 use Rattle.laws.specs.Limited.{holds, drawn, Limited}
 use Rattle.laws.proofs.Apart.{in-row, runnable-fit, runnable-place}
+use Rattle.laws.proofs.Online.{level-online}
 use Rattle.laws.proofs.Choice.{chosen, chosen-next, none-movable, movable-one, Target, target-of}
 use Rattle.laws.proofs.Finder.{movable-found, found-level, found-destination}
 use Rattle.laws.proofs.Limited.{none-some, candidate-movable}
@@ -257,10 +258,29 @@ module _ (m : Machine) (w : WellFormed m) where
             there (movable m new) refl (step-moves s ∙ ap moves (is ∙ step-is new (l .waits new some-new))) (same? u new)
             ∙ sym (ap (λ (o : Option ℕ). holds o u && movable m u) some-new)
 
+    -- a CPU below a task's level is online
+    online-below : (u : ℕ) → In u (waiting m) → (b : Bool) → ltb (level m c) (levelOf (prioOf m u)) ≡ b
+        → (bit (taskOf m u .mask) c && ltb (level m c) (levelOf (prioOf m u))) ≡ (allowed m u c && ltb (level m c) (levelOf (prioOf m u)))
+    online-below u i true h =
+        let high : prioOf m u ≤ highestPriority = runnable-fit m u w (runs u i) .prio-high in
+        let on : isOnline m c ≡ true = level-online m c w (omega (arith, ltb-true (level m c) (levelOf (prioOf m u)) h)) in
+        ap (λ (x : Bool). x && ltb (level m c) (levelOf (prioOf m u))) (sym (and-true (bit (taskOf m u .mask) c)) ∙ ap (λ (x : Bool). bit (taskOf m u .mask) c && x) (sym on))
+      where
+        and-true : (x : Bool) → (x && true) ≡ x
+        and-true true = refl
+        and-true false = refl
+    online-below u i false h =
+        ap (λ (x : Bool). bit (taskOf m u .mask) c && x) h ∙ and-false (bit (taskOf m u .mask) c) ∙ sym (ap (λ (x : Bool). allowed m u c && x) h ∙ and-false (allowed m u c))
+      where
+        and-false : (x : Bool) → (x && false) ≡ false
+        and-false true = refl
+        and-false false = refl
+
     -- of those who wait, these are the movable ones
     drawn-is : (x : ℕ) → x ≡ level m c → (u : ℕ) → In u (waiting m) → meant m (Drawn c x (s .task)) u ≡ movable m u
     drawn-is x e u i =
-        ap (λ (y : ℕ). eqb u (s .task) || (allowed m u c && ltb y (levelOf (prioOf m u)))) e
+        ap (λ (y : ℕ). eqb u (s .task) || (bit (taskOf m u .mask) c && ltb y (levelOf (prioOf m u)))) e
+        ∙ ap (λ (b : Bool). eqb u (s .task) || b) (online-below u i (ltb (level m c) (levelOf (prioOf m u))) refl)
         ∙ ap (λ (b : Bool). b || drawn m (some c) u) (new-is u i)
         ∙ candidate-movable m (some c) (taskOption new) l u i
 
@@ -279,11 +299,11 @@ module _ (m : Machine) (w : WellFormed m) where
       o : Origin m v w k
       o = origin-row m v w k
 
-      same : rowLevel (prioOf m) (flag m (v .origin)) (delete (v .task) (row m (v .origin))) ≡ level m (v .origin)
+      same : rowLevel (prioOf m) (idleLevel m (v .origin)) (delete (v .task) (row m (v .origin))) ≡ level m (v .origin)
       same =
-          ap (λ (r : List ℕ). rowLevel (prioOf m) (flag m (v .origin)) (delete (v .task) r)) (o .is)
-          ∙ ap (rowLevel (prioOf m) (flag m (v .origin))) (delete-behind (v .task) (o .top) (o .rest) (o .other))
-          ∙ sym (ap (rowLevel (prioOf m) (flag m (v .origin))) (o .is))
+          ap (λ (r : List ℕ). rowLevel (prioOf m) (idleLevel m (v .origin)) (delete (v .task) r)) (o .is)
+          ∙ ap (rowLevel (prioOf m) (idleLevel m (v .origin))) (delete-behind (v .task) (o .top) (o .rest) (o .other))
+          ∙ sym (ap (rowLevel (prioOf m) (idleLevel m (v .origin))) (o .is))
 
 -- ---- in terms of the lent tables
 

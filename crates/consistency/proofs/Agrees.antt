@@ -1,8 +1,8 @@
 -- What the consistency test means: it passes exactly if masks, counts, words and levels say the same and the levels are those of n CPUs.
 -- Assumes nothing.
 use mathlib.Core.Path.{_≡_, refl, sym, ap, ap₂, _∙_, subst}
-use mathlib.Core.Bool.{Bool, true, false, cond, not, _&&_, Bool·beq, false≢true}
-use mathlib.Core.Logic.{_≢_}
+use mathlib.Core.Bool.{Bool, true, false, cond, not, _&&_, _||_, Bool·beq, false≢true}
+use mathlib.Core.Logic.{_≢_, _⊎_, inl, inr}
 use mathlib.Core.List.{List, [], _∷_, _++_}
 use Prim.Native.Nat.{ℕ, zero, suc, _+_, _/_, _%_, _^_, _≤_, _<_, suc-le-suc}
 use native.Mathlib.Nat.{not-suc-le-zero, le-of-suc-le-suc, zero-lt-suc, add-suc, suc-add, zero-add, add-zero}
@@ -96,34 +96,50 @@ unfolding levelsFit
 fit-all n ls h = from-fit n 0 ls (λ i hi. ap (λ (k : ℕ). levelFits n k (getD ls i 0)) (zero-add i) ∙ h i hi)
 
 -- what it says of one place
-pub fits-below : (n c l : ℕ) → c < n → levelFits n c l ≡ true → (l < levelCount) × (l ≢ unused)
+pub fits-below : (n c l : ℕ) → c < n → levelFits n c l ≡ true → (l ≡ invalid) ⊎ ((l < levelCount) × (l ≢ unused))
 unfolding levelFits
-fits-below n c l h e =
-    let e′ : (ltb l levelCount && not (eqb l unused)) ≡ true = ap (λ (b : Bool). cond b (ltb l levelCount && not (eqb l unused)) (eqb l invalid)) (sym (lt-ltb c n h)) ∙ e in (
-      ltb-true l levelCount (and-left (ltb l levelCount) (not (eqb l unused)) e′),
-      eqb-false l unused (not-true (eqb l unused) (and-right (ltb l levelCount) (not (eqb l unused)) e′)),
+fits-below n c l h e = go (eqb l invalid) refl (ap (λ (b : Bool). cond b (eqb l invalid || good) (eqb l invalid)) (sym (lt-ltb c n h)) ∙ e)
+  where
+    good : Bool
+    good = ltb l levelCount && not (eqb l unused)
+
+    go : (b : Bool) → eqb l invalid ≡ b → (b || good) ≡ true → (l ≡ invalid) ⊎ ((l < levelCount) × (l ≢ unused))
+    go true i e = inl (eqb-true l invalid i)
+    go false i e = inr (
+      ltb-true l levelCount (and-left (ltb l levelCount) (not (eqb l unused)) e),
+      eqb-false l unused (not-true (eqb l unused) (and-right (ltb l levelCount) (not (eqb l unused)) e)),
     )
 
 pub fits-above : (n c l : ℕ) → n ≤ c → levelFits n c l ≡ true → l ≡ invalid
 unfolding levelFits
-fits-above n c l h e = eqb-true l invalid (ap (λ (b : Bool). cond b (ltb l levelCount && not (eqb l unused)) (eqb l invalid)) (sym (le-ltb c n h)) ∙ e)
+fits-above n c l h e = eqb-true l invalid (ap (λ (b : Bool). cond b (eqb l invalid || (ltb l levelCount && not (eqb l unused))) (eqb l invalid)) (sym (le-ltb c n h)) ∙ e)
 
 pub below-fits : (n c l : ℕ) → c < n → l < levelCount → l ≢ unused → levelFits n c l ≡ true
 unfolding levelFits
 below-fits n c l h hl d =
-    ap (λ (b : Bool). cond b (ltb l levelCount && not (eqb l unused)) (eqb l invalid)) (lt-ltb c n h)
+    ap (λ (b : Bool). cond b (eqb l invalid || (ltb l levelCount && not (eqb l unused))) (eqb l invalid)) (lt-ltb c n h)
+    ∙ ap (λ (b : Bool). b || (ltb l levelCount && not (eqb l unused))) (ne-eqb l invalid (λ e. omega arith))
     ∙ and-both _ _ (lt-ltb l levelCount hl) (ap not (ne-eqb l unused d))
 
-pub above-fits : (n c l : ℕ) → n ≤ c → l ≡ invalid → levelFits n c l ≡ true
+-- INVALID may stand anywhere
+pub invalid-fits : (n c l : ℕ) → l ≡ invalid → levelFits n c l ≡ true
 unfolding levelFits
-above-fits n c l h e = ap (λ (b : Bool). cond b (ltb l levelCount && not (eqb l unused)) (eqb l invalid)) (le-ltb c n h) ∙ eq-eqb l invalid e
+invalid-fits n c l e = go (ltb c n)
+  where
+    go : (b : Bool) → cond b (eqb l invalid || (ltb l levelCount && not (eqb l unused))) (eqb l invalid) ≡ true
+    go true = ap (λ (b : Bool). b || (ltb l levelCount && not (eqb l unused))) (eq-eqb l invalid e)
+    go false = eq-eqb l invalid e
 
 pub fits-known : (n c l : ℕ) → levelFits n c l ≡ true → known l ≡ true
 unfolding known
 fits-known n c l e = go (ltb c n) refl
   where
     go : (b : Bool) → ltb c n ≡ b → known l ≡ true
-    go true t = level-known l (fits-below n c l (ltb-true c n t) e .0)
+    go true t = one (fits-below n c l (ltb-true c n t) e)
+      where
+        one : (l ≡ invalid) ⊎ ((l < levelCount) × (l ≢ unused)) → known l ≡ true
+        one (inl i) = ap known i
+        one (inr k) = level-known l (k .0)
     go false t = ap known (fits-above n c l (ltb-false c n t) e)
 
 -- ---- the masks of a longer and longer list of levels
@@ -213,8 +229,12 @@ module _ (n : ℕ) (r : Record) (sized : Sized r) where
           hc = omega (arith, sized .levels)
 
           go : (b : Bool) → ltb c n ≡ b → levelFits n c (getD (r .levels) c 0) ≡ true
-          go true e = let l : c < n = ltb-true c n e in below-fits n c (getD (r .levels) c 0) l (k .below c l hc .0) (k .below c l hc .1)
-          go false e = let l : n ≤ c = ltb-false c n e in above-fits n c (getD (r .levels) c 0) l (k .above c l hc)
+          go true e = let l : c < n = ltb-true c n e in one l (k .below c l hc)
+            where
+              one : c < n → (getD (r .levels) c 0 ≡ invalid) ⊎ ((getD (r .levels) c 0 < levelCount) × (getD (r .levels) c 0 ≢ unused)) → levelFits n c (getD (r .levels) c 0) ≡ true
+              one l (inl i) = invalid-fits n c (getD (r .levels) c 0) i
+              one l (inr b) = below-fits n c (getD (r .levels) c 0) l (b .0) (b .1)
+          go false e = let l : n ≤ c = ltb-false c n e in invalid-fits n c (getD (r .levels) c 0) (k .above c l hc)
 
       masks : r .masks ≡ masksOf (r .levels)
       masks = ext-getD 0 (r .masks) (masksOf (r .levels)) (sized .masks ∙ sym (length-masks (r .levels))) (λ l h.

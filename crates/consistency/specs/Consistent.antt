@@ -1,8 +1,8 @@
 -- A record that is consistent in itself for n CPUs (W6 without the tables): a test that computes, and what it means.
 -- Assumes nothing.
 use mathlib.Core.Path.{_≡_}
-use mathlib.Core.Bool.{Bool, true, false, cond, not, _&&_}
-use mathlib.Core.Logic.{_≢_}
+use mathlib.Core.Bool.{Bool, true, false, cond, not, _&&_, _||_}
+use mathlib.Core.Logic.{_≢_, _⊎_}
 use mathlib.Core.List.{List, [], _∷_}
 use Prim.Native.Nat.{ℕ, suc, _/_, _%_, _^_, _≤_, _<_}
 use lib.Dec.{eqb, ltb}
@@ -12,9 +12,9 @@ use Rattle.levels.specs.Level.{levelCount, wordCount, cpuPlaces, unused, invali
 use Rattle.levels.specs.Record.{countAt, active, masksOf, countsOf, wordsOf}
 use Rattle.levels.specs.declared.record.Record.{Record}
 
--- the level that CPU place c may hold: below n one of the levels but the unused one, from n on INVALID
+-- the level that CPU place c may hold: INVALID, or below n one of the levels but the unused one
 unfoldable pub levelFits : ℕ → ℕ → ℕ → Bool
-levelFits n c l = cond (ltb c n) (ltb l levelCount && not (eqb l unused)) (eqb l invalid)
+levelFits n c l = cond (ltb c n) (eqb l invalid || (ltb l levelCount && not (eqb l unused))) (eqb l invalid)
 
 -- each place from c on does
 unfoldable pub fitFrom : ℕ → ℕ → List ℕ → Bool
@@ -61,7 +61,7 @@ pub record Consistent (n : ℕ) (r : Record) : Type 0 where
   pub words : (l : ℕ) → l < levelCount → bit (getD (r .words) (l / 64) 0) (l % 64) ≡ active (getD (r .counts) l 0)
   -- bits 102 to 127 are clear
   pub clear : (l : ℕ) → levelCount ≤ l → l < 128 → bit (getD (r .words) (l / 64) 0) (l % 64) ≡ false
-  -- a CPU is at one of the levels, but never at the unused one
-  pub below : (c : ℕ) → c < n → c < cpuPlaces → (getD (r .levels) c 0 < levelCount) × (getD (r .levels) c 0 ≢ unused)
+  -- a CPU is at one of the levels, but never at the unused one; or it holds INVALID
+  pub below : (c : ℕ) → c < n → c < cpuPlaces → (getD (r .levels) c 0 ≡ invalid) ⊎ ((getD (r .levels) c 0 < levelCount) × (getD (r .levels) c 0 ≢ unused))
   -- the other places hold INVALID
   pub above : (c : ℕ) → n ≤ c → c < cpuPlaces → getD (r .levels) c 0 ≡ invalid

@@ -62,7 +62,7 @@ fn level_fits(n: usize, cpu: usize, level: u8) -> bool
     let invalid = Level::INVALID;
     let unused = Level::UNUSED;
     if cpu < n {
-        ((level as usize) < LEVELS) & (level != unused.number)
+        (level == invalid.number) | (((level as usize) < LEVELS) & (level != unused.number))
     } else {
         level == invalid.number
     }

@@ -1,6 +1,7 @@
 -- From a kind to the event, and from the lent columns to the task that is read.
 -- Assumes nothing.
 use mathlib.Core.Path.{_≡_, sym, ap, _∙_, subst}
+use mathlib.Core.Bool.{Bool}
 use mathlib.Core.Logic.{_≢_, _⊎_, inl, inr}
 use mathlib.Core.List.{List, [], _∷_}
 use mathlib.Core.Option.{Option, none, some}
@@ -13,7 +14,8 @@ use Rattle.rules.specs.Events.{Event, Kind, kindOf, byKind, effectOf}
 use Rattle.rules.specs.Refusals.{firstFailing, noKind, checks, unknownKind}
 use Rattle.laws.proofs.Lists.{same?}
 use Rattle.laws.proofs.Checks.{no-kind}
-use Rattle.plans.specs.Decided.{asTask, firstOf, Named, Runs, Decided, DecidedAs}
+use Rattle.plans.specs.Decided.{asTask, firstOf, Named, Runs, strands, Decided, DecidedAs}
+use Rattle.stranding.specs.Stranding.{strandsBy}
 use Rattle.deciding.specs.Subject.{entries, subjectOf, Lent, Decides}
 use Rattle.plans.specs.declared.plan.Task.{Task as Columns}
 use Rattle.plans.specs.declared.plan.Decision.{Decision}
@@ -38,19 +40,19 @@ further k j h n = omega arith
 positive : (k : ℕ) → k ≢ 0 → 0 < k
 positive k n = omega arith
 
-pub unnamed : (k : ℕ) → k ≢ 1 → k ≢ 2 → k ≢ 3 → k ≢ 4 → k ≢ 5 → k ≢ 6 → k ≢ 7 → k ≢ 8 → k ≢ 9 → kindOf k ≡ none
-unnamed k n1 n2 n3 n4 n5 n6 n7 n8 n9 = go (same? k 0)
+pub unnamed : (k : ℕ) → k ≢ 1 → k ≢ 2 → k ≢ 3 → k ≢ 4 → k ≢ 5 → k ≢ 6 → k ≢ 7 → k ≢ 8 → k ≢ 9 → k ≢ 10 → k ≢ 11 → kindOf k ≡ none
+unnamed k n1 n2 n3 n4 n5 n6 n7 n8 n9 n10 n11 = go (same? k 0)
   where
     past : {j : ℕ} → j < k → k ≢ suc j → suc j < k
     past {j} h n = further k j h n
 
     go : (k ≡ 0) ⊎ (k ≢ 0) → kindOf k ≡ none
     go (inl e) = ap kindOf e
-    go (inr n0) = no-kind k (past (past (past (past (past (past (past (past (past (positive k n0) n1) n2) n3) n4) n5) n6) n7) n8) n9)
+    go (inr n0) = no-kind k (past (past (past (past (past (past (past (past (past (past (past (positive k n0) n1) n2) n3) n4) n5) n6) n7) n8) n9) n10) n11)
 
 -- ---- what is read
 
-module _ {m : Machine} {n full : ℕ} {ss ps qs cs ls ks : List ℕ} {t kind who : ℕ} (l : Lent m n full ss ps qs cs ls ks t kind who) where
+module _ {m : Machine} {n on full : ℕ} {ss ps qs cs ls ks : List ℕ} {t : ℕ} {b : Bool} {kind who : ℕ} (l : Lent m n on full ss ps qs cs ls ks t b kind who) where
   pub sized : (length ss ≡ taskPlaces)
       × ((length ps ≡ taskPlaces) × ((length qs ≡ taskPlaces) × ((length cs ≡ taskPlaces) × ((length ls ≡ taskPlaces) × (length ks ≡ taskPlaces)))))
   sized = (
@@ -63,6 +65,10 @@ module _ {m : Machine} {n full : ℕ} {ss ps qs cs ls ks : List ℕ} {t kind who
       ),
     ),
   )
+
+  -- kind 10 takes a CPU offline
+  pub strands-is : kind ≡ 10 → b ≡ strands m who
+  strands-is e = l .stranding ∙ ap (λ (x : ℕ). strandsBy m x who) e
 
   module _ {τ : Columns} (read : asTask τ ≡ entries ss ps qs cs ls ks t) where
     columns : asTask τ ≡ taskOf m t

@@ -1,7 +1,7 @@
 -- What an event is decided from, and the right decision.
 -- Assumes nothing.
 use mathlib.Core.Path.{_≡_}
-use mathlib.Core.Bool.{cond}
+use mathlib.Core.Bool.{Bool, cond}
 use mathlib.Core.List.{List}
 use Prim.Native.Nat.{ℕ}
 use lib.Dec.{leb}
@@ -12,6 +12,7 @@ use Rattle.rules.specs.WellFormed.{WellFormed}
 use Rattle.rules.specs.Events.{Event, effect}
 use Rattle.rules.specs.Refusals.{refusal}
 use Rattle.plans.specs.Decided.{firstOf, Decided}
+use Rattle.stranding.specs.Stranding.{strandsBy}
 use Rattle.plans.specs.declared.plan.Decision.{Decision}
 
 -- kinds up to this one name a task, later ones a CPU
@@ -32,9 +33,10 @@ Decides m e d = Decided (refusal m e) (effect e m) m d
 
 -- ---- what is lent
 
-pub record Lent (m : Machine) (n full : ℕ) (ss ps qs cs ls ks : List ℕ) (t kind who : ℕ) : Type 0 where
+pub record Lent (m : Machine) (n on full : ℕ) (ss ps qs cs ls ks : List ℕ) (t : ℕ) (b : Bool) (kind who : ℕ) : Type 0 where
   pub formed : WellFormed m
   pub cpus : n ≡ m .n
+  pub online : on ≡ m .online
   pub ticks : full ≡ m .full
   pub state : ss ≡ m .state
   pub policy : ps ≡ m .policy
@@ -43,6 +45,7 @@ pub record Lent (m : Machine) (n full : ℕ) (ss ps qs cs ls ks : List ℕ) (t k
   pub slice : ls ≡ m .slice
   pub mask : ks ≡ m .mask
   pub subject : t ≡ subjectOf m kind who
+  pub stranding : b ≡ strandsBy m kind who
 
 pub record LentRows (m : Machine) (n : ℕ) (flat ns : List ℕ) : Type 0 where
   pub formed : WellFormed m

@@ -9,9 +9,10 @@ pub mod read;
 use plans::plan::Decision;
 use rules::answer::UNKNOWN_KIND;
 
-// `at` is the task that the event is about: `read::subject`.
+// `at` is the task that the event is about: `read::subject`. `stranding`: kind 10 would leave a task nowhere to go.
 pub fn decide(
     n: usize,
+    online: u64,
     full: u16,
     state: &[u8],
     policy: &[u8],
@@ -20,6 +21,7 @@ pub fn decide(
     slice: &[u16],
     mask: &[u64],
     at: usize,
+    stranding: bool,
     kind: u32,
     who: u32,
     a: u32,
@@ -27,22 +29,24 @@ pub fn decide(
     k: u64,
 ) -> Decision
     requires { ⌜ ((m : Machine)
-        × Lent m n full (now state) (now policy) (now prio) (now cpu) (now slice) (now mask) at kind who) ⌝ }
+        × Lent m n online full (now state) (now policy) (now prio) (now cpu) (now slice) (now mask) at stranding kind who) ⌝ }
     ensures { λ r. ⌜ ((m : Machine)
-        → Lent m n full (old state) (old policy) (old prio) (old cpu) (old slice) (old mask) at kind who
+        → Lent m n online full (old state) (old policy) (old prio) (old cpu) (old slice) (old mask) at stranding kind who
         → Decides m (event kind who a b k) r) ⌝ }
 {
     let task = read::task_at(state, policy, prio, cpu, slice, mask, at);
     match kind {
         1 => lifecycle::add(n, full, task, who, a, b, k),
         2 => lifecycle::remove(task, who),
-        3 => lifecycle::wake(task, who),
+        3 => lifecycle::wake(online, task, who),
         4 => lifecycle::sleep(task, who),
         5 => change::set_priority(task, who, b),
-        6 => change::set_affinity(n, task, who, k),
-        7 => percpu::tick(n, full, at, task, who),
-        8 => percpu::yield_cpu(n, at, task, who),
+        6 => change::set_affinity(n, online, task, who, k),
+        7 => percpu::tick(n, online, full, at, task, who),
+        8 => percpu::yield_cpu(n, online, at, task, who),
         9 => percpu::set_ordinary(n, who, b),
+        10 => percpu::take_offline(n, online, stranding, who),
+        11 => percpu::bring_online(n, online, who),
         _ => Decision::Refused(UNKNOWN_KIND),
     }
 }

@@ -20,11 +20,12 @@ pub fn make_fresh_default(
     rows: &mut [u16],
     counts: &mut [u16],
     flags: &mut [u8],
+    online: &mut u64,
     log: &mut [u16],
     record: Record,
 ) -> Made
-    ensures { λ m. let s = oldTables defaultSlice state policy prio cpu slice mask rows counts flags log in
-        let t = newTables defaultSlice state policy prio cpu slice mask rows counts flags log in
+    ensures { λ m. let s = oldTables defaultSlice state policy prio cpu slice mask rows counts flags online log in
+        let t = newTables defaultSlice state policy prio cpu slice mask rows counts flags online log in
         ⌜ kept (m .answer) (m .«record») t ≡ made n «record» s ⌝
         ∗ ⌜ m .full ≡ handedBack (m .answer) defaultSlice ⌝ }
 {
@@ -40,6 +41,7 @@ pub fn make_fresh_default(
         rows,
         counts,
         flags,
+        online,
         log,
         record,
     )

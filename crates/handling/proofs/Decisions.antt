@@ -15,7 +15,7 @@ use Rattle.plans.specs.Decided.{did}
 use Rattle.deciding.specs.Subject.{Decides}
 use Rattle.plans.proofs.plan.Decision.{the-type}
 use Rattle.plans.specs.declared.plan.Decision.{Decision}
-use Rattle.plans.specs.declared.plan.Decision.the-variants.{Refused, Nothing, Place, Flag}
+use Rattle.plans.specs.declared.plan.Decision.the-variants.{Refused, Nothing, Place, Flag, Offline, Online}
 use Rattle.carrying.specs.Holds.{Ready}
 use Rattle.hinting.specs.Past.{Able}
 
@@ -24,15 +24,21 @@ accepted (Refused a) = false
 accepted Nothing = true
 accepted (Place p) = true
 accepted (Flag c b) = true
+accepted (Offline c) = true
+accepted (Online c) = true
 
 -- none of the variants behind the first
-pub not-refused : (d : Decision) → OneOf (1 ∷ 2 ∷ 3 ∷ []) (tagOf the-type d) → accepted d ≡ true
+pub not-refused : (d : Decision) → OneOf (1 ∷ 2 ∷ 3 ∷ 4 ∷ 5 ∷ []) (tagOf the-type d) → accepted d ≡ true
 not-refused (Refused a) (inl h) = absurd (omega arith)
 not-refused (Refused a) (inr (inl h)) = absurd (omega arith)
-not-refused (Refused a) (inr (inr h)) = absurd (omega arith)
+not-refused (Refused a) (inr (inr (inl h))) = absurd (omega arith)
+not-refused (Refused a) (inr (inr (inr (inl h)))) = absurd (omega arith)
+not-refused (Refused a) (inr (inr (inr (inr h)))) = absurd (omega arith)
 not-refused Nothing h = refl
 not-refused (Place p) h = refl
 not-refused (Flag c b) h = refl
+not-refused (Offline c) h = refl
+not-refused (Online c) h = refl
 
 module _ (m : Machine) (e : Event) where
   pub ready : (d : Decision) → Decides m e d → Ready m d
@@ -41,6 +47,8 @@ module _ (m : Machine) (e : Event) where
   ready Nothing h = tt
   ready (Place p) h = h .1 .doable
   ready (Flag c b) h = (h .2, h .3)
+  ready (Offline c) h = h .2
+  ready (Online c) h = h .2
 
   pub able : (d : Decision) → Decides m e d → Able m d
   unfolding Decides
@@ -48,6 +56,8 @@ module _ (m : Machine) (e : Event) where
   able Nothing h = tt
   able (Place p) h = h .1 .doable
   able (Flag c b) h = tt
+  able (Offline c) h = tt
+  able (Online c) h = tt
 
   pub refused : (a : ℕ) → Decides m e (Refused a) → (a ≡ refusal m e) × (a ≡ 0 → ⊥)
   unfolding Decides
@@ -59,3 +69,5 @@ module _ (m : Machine) (e : Event) where
   taken Nothing h z = (sym (h .0), sym (h .1))
   taken (Place p) h z = (sym (h .0), sym (h .1 .effect))
   taken (Flag c b) h z = (sym (h .0), sym (h .1))
+  taken (Offline c) h z = (sym (h .0), sym (h .1))
+  taken (Online c) h z = (sym (h .0), sym (h .1))

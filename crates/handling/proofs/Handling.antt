@@ -19,7 +19,7 @@ use Rattle.rules.specs.Entry.{result, Good, Result, kept, written, checked, eve
 use Rattle.rules.specs.LentDemand3.{LentDemand3}
 use Rattle.laws.proofs.Checks.{outcome-accepted}
 use Rattle.laws.proofs.Effects.{keep-effect}
-use Rattle.laws.proofs.Runs.{settle-run, run-keeps, run-few}
+use Rattle.laws.proofs.Runs.{settle-run, run-keeps, run-few, online-most}
 use Rattle.laws.proofs.Tables.{write-read, stored-test}
 use Rattle.laws.proofs.Entry.{checked-good, good-checked, answer-checked, answer-event, handled-answer, handled-refused, handled-accepted, handled-good, start-n, start-full}
 use Rattle.laws.proofs.LentDemand3.{handled-lent}
@@ -27,6 +27,7 @@ use Rattle.laws.specs.Still.{Still}
 use Rattle.laws.proofs.Settled.{handled-still, still-handled}
 use Rattle.lenttables.specs.Lent.{lent}
 use Rattle.plans.specs.Decided.{did}
+use Rattle.stranding.specs.Stranding.{strandsBy, LentMasks}
 use Rattle.deciding.specs.Subject.{subjectOf, Lent, LentRows, Decides}
 use Rattle.plans.specs.declared.plan.Decision.{Decision}
 use Rattle.plans.specs.declared.plan.Decision.the-variants.{Refused}
@@ -50,13 +51,14 @@ record Same (s t : Tables) : Type 0 where
   rows : s .rows ≡ t .rows
   counts : s .counts ≡ t .counts
   flags : s .flags ≡ t .flags
+  online : s .online ≡ t .online
   log : s .log ≡ t .log
 
 same-tables : (s t : Tables) → Same s t → s ≡ t
 same-tables s t h = whole
   where
-    whole : lent (s .full) (s .state) (s .policy) (s .prio) (s .cpu) (s .slice) (s .mask) (s .rows) (s .counts) (s .flags) (s .log)
-        ≡ lent (t .full) (t .state) (t .policy) (t .prio) (t .cpu) (t .slice) (t .mask) (t .rows) (t .counts) (t .flags) (t .log)
+    whole : lent (s .full) (s .state) (s .policy) (s .prio) (s .cpu) (s .slice) (s .mask) (s .rows) (s .counts) (s .flags) (s .online) (s .log)
+        ≡ lent (t .full) (t .state) (t .policy) (t .prio) (t .cpu) (t .slice) (t .mask) (t .rows) (t .counts) (t .flags) (t .online) (t .log)
     whole =
         let a = h .state in
         let b = h .policy in
@@ -69,6 +71,7 @@ same-tables s t h = whole
         let j = h .flags in
         let k = h .log in
         let l = h .full in
+        let o = h .online in
         cc
 
 -- ---- what `handle` promises of the answer a, k moves, the record q and the tables t
@@ -102,7 +105,7 @@ module _ {n : ℕ} {r : Record} {s : Tables} (h : Passed n r s) where
       long : length (s .rows) ≡ taskPlaces * length (s .counts)
       long = good .rows ∙ ap (λ (k : ℕ). taskPlaces * k) (sym (good .counts))
 
-  holds : Holds before (s .state) (s .policy) (s .prio) (s .cpu) (s .slice) (s .mask) (s .rows) (s .counts) (s .flags) r
+  holds : Holds before (s .state) (s .policy) (s .prio) (s .cpu) (s .slice) (s .mask) (s .rows) (s .counts) (s .flags) (s .online) r
   holds =
       record {
         state = refl;
@@ -114,18 +117,23 @@ module _ {n : ℕ} {r : Record} {s : Tables} (h : Passed n r s) where
         rows = sym (back .0);
         counts = sym (back .1);
         flags = refl;
+        online = refl;
         levels = good .levels;
       }
 
   pub lent-rows : LentRows (machineOf n s) n (s .rows) (s .counts)
   lent-rows = record { formed = good .machine; cpus = refl; rows = holds .rows; counts = holds .counts }
 
-  pub lent-columns : (kind who : ℕ) {t : ℕ} → t ≡ subjectOf (machineOf n s) kind who
-      → Lent (machineOf n s) n (s .full) (s .state) (s .policy) (s .prio) (s .cpu) (s .slice) (s .mask) t kind who
-  lent-columns kind who e =
+  pub lent-masks : LentMasks (machineOf n s) n (s .online) (s .mask) (s .rows) (s .counts)
+  lent-masks = record { formed = good .machine; cpus = refl; online = refl; mask = refl; rows = holds .rows; counts = holds .counts }
+
+  pub lent-columns : (kind who : ℕ) {t : ℕ} {b : Bool} → t ≡ subjectOf (machineOf n s) kind who → b ≡ strandsBy (machineOf n s) kind who
+      → Lent (machineOf n s) n (s .online) (s .full) (s .state) (s .policy) (s .prio) (s .cpu) (s .slice) (s .mask) t b kind who
+  lent-columns kind who e st =
       record {
         formed = good .machine;
         cpus = refl;
+        online = refl;
         ticks = refl;
         state = refl;
         policy = refl;
@@ -134,6 +142,7 @@ module _ {n : ℕ} {r : Record} {s : Tables} (h : Passed n r s) where
         slice = refl;
         mask = refl;
         subject = e;
+        stranding = st;
       }
 
   pub reading : Reading (machineOf n s) (s .cpu) (s .rows) (r .levels)
@@ -143,7 +152,7 @@ module _ {n : ℕ} {r : Record} {s : Tables} (h : Passed n r s) where
   -- ---- the decision
 
   module _ (e : Event) {d : Decision} (right : Decides (machineOf n s) e d) where
-    pub carriable : Carriable (machineOf n s) (s .state) (s .policy) (s .prio) (s .cpu) (s .slice) (s .mask) (s .rows) (s .counts) (s .flags) r d
+    pub carriable : Carriable (machineOf n s) (s .state) (s .policy) (s .prio) (s .cpu) (s .slice) (s .mask) (s .rows) (s .counts) (s .flags) (s .online) r d
     carriable = record { formed = good .machine; holds = holds; ready = ready before e d right }
 
     -- refused: nothing was written
@@ -179,10 +188,10 @@ pub record Carried (n : ℕ) (r : Record) (s : Tables) (e : Event) (t : Tables) 
   pub takes : refusal (machineOf n s) e ≡ 0
   pub full : t .full ≡ s .full
   pub log : t .log ≡ s .log
-  pub done : Holds (effect e (machineOf n s)) (t .state) (t .policy) (t .prio) (t .cpu) (t .slice) (t .mask) (t .rows) (t .counts) (t .flags) q
+  pub done : Holds (effect e (machineOf n s)) (t .state) (t .policy) (t .prio) (t .cpu) (t .slice) (t .mask) (t .rows) (t .counts) (t .flags) (t .online) q
 
 pub carries : {n : ℕ} {r : Record} {s : Tables} (e : Event) {t : Tables} {q : Record} (d : Decision) → Passed n r s
-    → Decides (machineOf n s) e d → accepted d ≡ true → t .full ≡ s .full → t .log ≡ s .log → Holds (did d (machineOf n s)) (t .state) (t .policy) (t .prio) (t .cpu) (t .slice) (t .mask) (t .rows) (t .counts) (t .flags) q
+    → Decides (machineOf n s) e d → accepted d ≡ true → t .full ≡ s .full → t .log ≡ s .log → Holds (did d (machineOf n s)) (t .state) (t .policy) (t .prio) (t .cpu) (t .slice) (t .mask) (t .rows) (t .counts) (t .flags) (t .online) q
     → Carried n r s e t q
 carries {n} {r} {s} e {t} {q} d h right z full log done =
     let ok : (refusal (machineOf n s) e ≡ 0) × (did d (machineOf n s) ≡ effect e (machineOf n s)) = taken (machineOf n s) e d right z in
@@ -191,7 +200,7 @@ carries {n} {r} {s} e {t} {q} d h right z full log done =
       takes = ok .0;
       full = full;
       log = log;
-      done = subst (λ (m : Machine). Holds m (t .state) (t .policy) (t .prio) (t .cpu) (t .slice) (t .mask) (t .rows) (t .counts) (t .flags) q) (ok .1) done;
+      done = subst (λ (m : Machine). Holds m (t .state) (t .policy) (t .prio) (t .cpu) (t .slice) (t .mask) (t .rows) (t .counts) (t .flags) (t .online) q) (ok .1) done;
     }
 
 module _ {n : ℕ} {r : Record} {s : Tables} {e : Event} {t : Tables} {q : Record} (h : Carried n r s e t q) where
@@ -218,6 +227,7 @@ module _ {n : ℕ} {r : Record} {s : Tables} {e : Event} {t : Tables} {q : Recor
         rows = h .done .rows;
         counts = h .done .counts;
         flags = h .done .flags;
+        online = h .done .online;
         log = h .log;
       })
 
@@ -253,7 +263,7 @@ module _ {n : ℕ} {r : Record} {s : Tables} {e : Event} {t : Tables} {q : Recor
     steps = settleAll start
 
     abbrev after : Tables
-    after = lent (t .full) (t .state) (t .policy) (t .prio) cs (t .slice) (t .mask) flat ks (t .flags) lg
+    after = lent (t .full) (t .state) (t .policy) (t .prio) cs (t .slice) (t .mask) flat ks (t .flags) (t .online) lg
 
     -- steps leave the other columns and the full slice alone
     stays : {A : Type 0} (f : Machine → A) → ((v : Move) (m : Machine) → f (migrate v m) ≡ f m) → f start ≡ f (steps .machine)
@@ -273,6 +283,7 @@ module _ {n : ℕ} {r : Record} {s : Tables} {e : Event} {t : Tables} {q : Recor
           rows = ended .held .rows;
           counts = ended .held .counts;
           flags = h .done .flags ∙ stays (λ m. m .flags) (λ v m. refl);
+          online = h .done .online ∙ stays (λ m. m .online) (λ v m. refl);
           log = ended .logs ∙ ap (logged (steps .log)) (h .log);
         })
 
@@ -285,7 +296,7 @@ module _ {n : ℕ} {r : Record} {s : Tables} {e : Event} {t : Tables} {q : Recor
         all ∙ sym (ap (λ (o : Outcome). written (o .moves) (o .machine) (logged (o .log) (s .log))) (outcome-accepted (machineOf n s) e (h .takes)))
         ∙ sym (handled-accepted n r s e accepted-is)
 
-    pub taken-result : Handed n r s e 0 k p (lent (t .full) (t .state) (t .policy) (t .prio) cs (t .slice) (t .mask) flat ks (t .flags) lg)
+    pub taken-result : Handed n r s e 0 k p (lent (t .full) (t .state) (t .policy) (t .prio) cs (t .slice) (t .mask) flat ks (t .flags) (t .online) lg)
     taken-result =
         handed n r s e 0 k p after taken-is
         (good-checked n p after (subst (λ (x : Result). Good n (x .cpupri) (x .tables)) (sym taken-is) (handled-good n r s e accepted-is)))
@@ -293,9 +304,8 @@ module _ {n : ℕ} {r : Record} {s : Tables} {e : Event} {t : Tables} {q : Recor
     -- there are fewer moves than CPUs
     pub taken-few : k < cpuPlaces
     taken-few =
-        let few : suc (length (steps .log)) ≤ start .n = run-few well (settle-run (start .n) start) in
         let count : k ≡ length (steps .log) = ended .moves in
-        omega (arith, well .shape .cpus)
+        omega (arith, run-few well (settle-run (start .n) start), online-most start, well .shape .cpus)
 
 -- ---- refused by the check
 

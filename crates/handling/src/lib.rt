@@ -16,6 +16,7 @@ use hinting::past::hint;
 use hinting::past::remember;
 use migration::settle::settle;
 use plans::plan::Decision;
+use stranding::strands;
 
 // The answer to an event: 0 and the number of moves, or a refusal with 0 moves, which changes nothing.
 pub struct Handled {
@@ -37,6 +38,7 @@ pub fn handle(
     rows: &mut [u16],
     counts: &mut [u16],
     flags: &mut [u8],
+    online: &mut u64,
     log: &mut [u16],
     masks: &mut [u64; LEVELS],
     tallies: &mut [u8; LEVELS],
@@ -50,20 +52,23 @@ pub fn handle(
     k: u64,
 ) -> Handled
     requires { let r = nowRecord masks tallies words levels in
-        ⌜ checked n r (nowTables full state policy prio cpu slice mask rows counts flags log) ≡ 0 ⌝ }
-    requires { ⌜ (settled ≡ true → Still n (nowTables full state policy prio cpu slice mask rows counts flags log)) ⌝ }
+        ⌜ checked n r (nowTables full state policy prio cpu slice mask rows counts flags online log) ≡ 0 ⌝ }
+    requires { ⌜ (settled ≡ true → Still n (nowTables full state policy prio cpu slice mask rows counts flags online log)) ⌝ }
     ensures { λ o. let r = oldRecord masks tallies words levels in
         let q = newRecord masks tallies words levels in
-        let s = oldTables full state policy prio cpu slice mask rows counts flags log in
-        let t = newTables full state policy prio cpu slice mask rows counts flags log in
+        let s = oldTables full state policy prio cpu slice mask rows counts flags online log in
+        let t = newTables full state policy prio cpu slice mask rows counts flags online log in
         ⌜ result (o .answer) (o .moves) q t ≡ handled n r s (numbers kind who a b k) ⌝
         ∗ ⌜ checked n q t ≡ 0 ⌝
         ∗ ⌜ (o .answer ≡ 0 → Still n t) ⌝
         ∗ ⌜ (Still n s → Still n t) ⌝ }
 {
+    let up = *online;
     let at = subject(n, rows, counts, kind, who);
+    let stranding = strands(n, up, mask, rows, counts, kind, who);
     let decision = decide(
         n,
+        up,
         full,
         state,
         policy,
@@ -72,6 +77,7 @@ pub fn handle(
         slice,
         mask,
         at,
+        stranding,
         kind,
         who,
         a,
@@ -95,6 +101,7 @@ pub fn handle(
         rows,
         counts,
         flags,
+        online,
         masks,
         tallies,
         words,

@@ -18,7 +18,7 @@ use Rattle.laws.proofs.Limited.{waits-in, first-in}
 use Rattle.laws.proofs.Touched.{ran-there, limited-touched, touches-carried, limited-settled, limited-flag}
 use Rattle.plans.specs.Decided.{asPlan, did}
 use Rattle.plans.specs.declared.plan.Decision.{Decision}
-use Rattle.plans.specs.declared.plan.Decision.the-variants.{Refused, Nothing, Place, Flag}
+use Rattle.plans.specs.declared.plan.Decision.the-variants.{Refused, Nothing, Place, Flag, Offline, Online}
 use Rattle.hinting.specs.Hinted.{cpuOption, taskOption, Hinted}
 use Rattle.hinting.specs.Past.{pastBy, Able, Standing, fallenSince, newSince, hintAfter}
 use Rattle.hinting.proofs.Hints.{some-task, option-task, some-cpu}
@@ -79,6 +79,8 @@ module _ (m : Machine) (w : WellFormed m) (still : next m ≡ none) where
       hinted-task (p .task) m (carried (asPlan p) m) w w′ (k .task)
       (limited-touched (p .task) m (carried (asPlan p) m) w w′ (touches-carried m (asPlan p) w k) still)
   settled-hinted (Flag c b) k w′ = limited-flag m c b w still
+  settled-hinted (Offline c) k w′ = tt
+  settled-hinted (Online c) k w′ = tt
 
 pub event-hinted : (s : Bool) (m : Machine) (d : Decision) → WellFormed m → (s ≡ true → next m ≡ none) → Able m d → WellFormed (did d m)
     → Hinted (did d m) (hintAfter (pastBy s m d) (did d m))
@@ -92,3 +94,5 @@ past-stands true m m′ (Refused a) w e k = tt
 past-stands true m m′ Nothing w e k = tt
 past-stands true m m′ (Place p) w e k = (k .task, subst (λ (n : ℕ). taskOf m (p .task) .cpu < n) (sym e) (cpu-small m (p .task) w (k .task)))
 past-stands true m m′ (Flag c b) w e k = tt
+past-stands true m m′ (Offline c) w e k = tt
+past-stands true m m′ (Online c) w e k = tt

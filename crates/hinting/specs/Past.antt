@@ -14,7 +14,7 @@ use Rattle.hinting.specs.declared.hint.Hint.{Hint}
 use Rattle.hinting.specs.declared.hint.Hint.the-variants.{Unknown as Anyone, Few}
 use Rattle.plans.specs.Decided.{asPlan}
 use Rattle.plans.specs.declared.plan.Decision.{Decision}
-use Rattle.plans.specs.declared.plan.Decision.the-variants.{Refused, Nothing, Place, Flag}
+use Rattle.plans.specs.declared.plan.Decision.the-variants.{Refused, Nothing, Place, Flag, Offline, Online}
 use Rattle.hinting.specs.declared.past.Past.{Past}
 use Rattle.hinting.specs.declared.past.Past.the-variants.{Unknown, Untouched, Task}
 
@@ -31,13 +31,15 @@ pub record Reading (m : Machine) (cs flat ls : List ℕ) : Type 0 where
 abbrev pub pastOf : Machine → ℕ → Past
 pastOf m t = let c : ℕ = taskOf m t .cpu in Task t c (level m c) (holds (running m c) t)
 
--- a decision touches the task that it places
+-- a decision touches the task that it places; where a CPU goes or comes, nothing is known
 abbrev pub pastBy : Bool → Machine → Decision → Past
 pastBy false m d = Unknown
 pastBy true m (Refused a) = Untouched
 pastBy true m Nothing = Untouched
 pastBy true m (Place p) = pastOf m (p .task)
 pastBy true m (Flag c b) = Untouched
+pastBy true m (Offline c) = Unknown
+pastBy true m (Online c) = Unknown
 
 -- what a decision places can be placed
 abbrev pub Able : Machine → Decision → Type 0
@@ -45,6 +47,8 @@ Able m (Refused a) = Unit {0}
 Able m Nothing = Unit {0}
 Able m (Place p) = Doable m (asPlan p)
 Able m (Flag c b) = Unit {0}
+Able m (Offline c) = Unit {0}
+Able m (Online c) = Unit {0}
 
 -- ---- after it
 

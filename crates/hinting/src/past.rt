@@ -13,7 +13,7 @@ use runqueue::row::PLACES;
 
 // What was so before the effect.
 pub enum Past {
-    // the machine was perhaps not settled
+    // the machine was perhaps not settled, or is much changed
     Unknown,
     // it was, and no task is touched
     Untouched,
@@ -44,6 +44,8 @@ pub fn remember(
         Decision::Flag { cpu: _, work: _ } => Past::Untouched,
         Decision::Nothing => Past::Untouched,
         Decision::Refused(_) => Past::Untouched,
+        Decision::Offline { cpu: _ } => Past::Unknown, // many tasks are touched
+        Decision::Online { cpu: _ } => Past::Unknown, // anyone may go there
     }
 }
 

@@ -13,7 +13,7 @@ use cpupri::record::LEVELS;
 use cpupri::record::WORDS;
 
 // One event on tables that pass the check, and pass it again afterwards: 0 with the number of moves, or a refusal,
-// 3 to 9, with 0 moves, which changes nothing. `settled` says that no task is movable, as on fresh tables and after an
+// 3 to 12, with 0 moves, which changes nothing. `settled` says that no task is movable, as on fresh tables and after an
 // accepted event.
 #[no_mangle]
 pub extern "C" fn qoriwesh_inner_event(
@@ -28,6 +28,7 @@ pub extern "C" fn qoriwesh_inner_event(
     rows: &mut [u16],
     counts: &mut [u16],
     flags: &mut [u8],
+    online: &mut u64,
     log: &mut [u16],
     masks: &mut [u64; LEVELS],
     tallies: &mut [u8; LEVELS],
@@ -42,12 +43,12 @@ pub extern "C" fn qoriwesh_inner_event(
     moves: &mut u32,
 ) -> u8
     requires { let r = nowRecord masks tallies words levels in
-        ⌜ checked n r (nowTables full state policy prio cpu slice mask rows counts flags log) ≡ 0 ⌝ }
-    requires { ⌜ (settled ≡ true → Still n (nowTables full state policy prio cpu slice mask rows counts flags log)) ⌝ }
+        ⌜ checked n r (nowTables full state policy prio cpu slice mask rows counts flags online log) ≡ 0 ⌝ }
+    requires { ⌜ (settled ≡ true → Still n (nowTables full state policy prio cpu slice mask rows counts flags online log)) ⌝ }
     ensures { λ o. let r = oldRecord masks tallies words levels in
         let q = newRecord masks tallies words levels in
-        let s = oldTables full state policy prio cpu slice mask rows counts flags log in
-        let t = newTables full state policy prio cpu slice mask rows counts flags log in
+        let s = oldTables full state policy prio cpu slice mask rows counts flags online log in
+        let t = newTables full state policy prio cpu slice mask rows counts flags online log in
         ⌜ result o (new moves) q t ≡ handled n r s (numbers kind who a b k) ⌝
         ∗ ⌜ checked n q t ≡ 0 ⌝
         ∗ ⌜ (o ≡ 0 → Still n t) ⌝
@@ -65,6 +66,7 @@ pub extern "C" fn qoriwesh_inner_event(
         rows,
         counts,
         flags,
+        online,
         log,
         masks,
         tallies,

@@ -5,7 +5,7 @@ use mathlib.Core.Path.{_≡_, refl, sym, ap, _∙_, subst}
 use mathlib.Core.Bool.{Bool, true, false, cond, _&&_}
 use mathlib.Core.Logic.{_≢_, _⊎_, inl, inr}
 use mathlib.Core.List.{List, [], _∷_}
-use Prim.Native.Nat.{ℕ, suc, _+_, _≤_, _<_}
+use Prim.Native.Nat.{ℕ, suc, _+_, _≤_, _<_, _^_}
 use native.Mathlib.Omega.{arith}
 use lib.Dec.{eqb, ltb}
 use lib.ListN.{length, List·getD-eq-default}
@@ -85,6 +85,8 @@ pub record Apart (t : ℕ) (m : Machine) : Type 0 where
   pub rows : (u c : ℕ) → u ≢ t → occ u (row m c) ≡ standing (taskOf m u) c
   pub home : (u : ℕ) → u ≢ t → taskOf m u .state ≡ runnable → allowed m u (taskOf m u .cpu) ≡ true
   pub falling : (c : ℕ) → Falling (prioOf m) (row m c)
+  pub online-some : 0 < m .online
+  pub online-fits : m .online < 2 ^ m .n
 
 -- who stands in a row is another task
 pub in-other : (t : ℕ) (m : Machine) → Apart t m → (c u : ℕ) → In u (row m c) → u ≢ t
@@ -101,6 +103,8 @@ apart-idle t m w n =
       rows = λ u c e. w .rows u c;
       home = λ u e. w .home u;
       falling = w .falling;
+      online-some = w .online-some;
+      online-fits = w .online-fits;
     }
 
 pub fit-of : (n full : ℕ) (τ : Task) → Sound n full τ → τ .state ≢ 0 → Fit n full τ
@@ -140,6 +144,8 @@ apart-dequeue t m w s =
       home = λ u e. w .home u;
       falling = row-cases m home (delete t (row m home)) (λ d r. Falling (prioOf m) r) fits
           (falling-delete (prioOf m) t (row m home) (w .falling home)) (λ d n. w .falling d);
+      online-some = w .online-some;
+      online-fits = w .online-fits;
     }
   where
     home : ℕ
@@ -156,7 +162,7 @@ apart-dequeue t m w s =
 -- any columns that differ from the machine's at t alone
 module _ (t : ℕ) (m : Machine) (p : Apart t m) (a b c d e f : List ℕ) where
   abbrev other : Machine
-  other = record { n = m .n; full = m .full; state = a; policy = b; prio = c; cpu = d; slice = e; mask = f; rows = m .rows; flags = m .flags }
+  other = record { n = m .n; full = m .full; state = a; policy = b; prio = c; cpu = d; slice = e; mask = f; rows = m .rows; flags = m .flags; online = m .online }
 
   pub apart-columns : Shape other → ((u : ℕ) → u ≢ t → taskOf other u ≡ taskOf m u) → Apart t other
   apart-columns s same =
@@ -168,6 +174,8 @@ module _ (t : ℕ) (m : Machine) (p : Apart t m) (a b c d e f : List ℕ) where
         rows = λ u c n. subst (λ (τ : Task). occ u (row m c) ≡ standing τ c) (sym (same u n)) (p .rows u c n);
         home = λ u n. subst (λ (τ : Task). τ .state ≡ runnable → allows m (τ .mask) (τ .cpu) ≡ true) (sym (same u n)) (p .home u n);
         falling = λ c. falling-cong (prioOf m) (prioOf other) (row m c) (λ u i. ap (λ (τ : Task). τ .prio) (sym (same u (in-other t m p c u i)))) (p .falling c);
+        online-some = p .online-some;
+        online-fits = p .online-fits;
       }
 
 module _ (t : ℕ) (m : Machine) (p : Apart t m) where
@@ -194,6 +202,8 @@ module _ (t : ℕ) (m : Machine) (p : Apart t m) where
         rows = λ u c. rows u c (same? u t);
         home = λ u h. home u h (same? u t);
         falling = p .falling;
+        online-some = p .online-some;
+        online-fits = p .online-fits;
       }
     where
       tasks : (u : ℕ) → u < taskPlaces → (u ≡ t) ⊎ (u ≢ t) → Sound (m .n) (m .full) (taskOf m u)
@@ -249,6 +259,8 @@ module _ (t c : ℕ) (m : Machine) (p : Apart t m) (place : t < taskPlaces) (fit
         rows = λ u d. rows u d (same? u t);
         home = λ u h. home u h (same? u t);
         falling = row-cases m c r (λ d q. Falling (prioOf m) q) fits (joins .falling) (λ d n. p .falling d);
+        online-some = p .online-some;
+        online-fits = p .online-fits;
       }
     where
       fits : c < length (m .rows)

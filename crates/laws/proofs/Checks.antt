@@ -13,7 +13,7 @@ use lib.Dec.{eqb, leb, ltb}
 use borrow.Author.Tests.{eqb-true, leb-true, leb-false, ltb-true, lt-ltb, not-false}
 use Rattle.rules.specs.Machine.{Machine}
 use Rattle.rules.specs.Events.{Event, Kind, kinds, kindOf, byKind, effect, effectOf}
-use Rattle.rules.specs.Events.{add, remove, wake, sleep, set-priority, set-affinity, tick, yield, set-ordinary}
+use Rattle.rules.specs.Events.{add, remove, wake, sleep, set-priority, set-affinity, tick, yield, set-ordinary, take-offline, bring-online}
 use Rattle.cpupri.specs.Found.{maskFits}
 use Rattle.rules.specs.Refusals.{Check, firstFailing, Passes, noKind, checks, refusal}
 use Rattle.rules.specs.Outcome.{outcome, answered, accepted}
@@ -36,6 +36,8 @@ positive m e set-affinity = omega arith
 positive m e tick = omega arith
 positive m e yield = omega arith
 positive m e set-ordinary = omega arith
+positive m e take-offline = omega arith
+positive m e bring-online = omega arith
 
 pub passes : (cs : List Check) → Positive cs → firstFailing cs ≡ 0 → Passes cs
 unfolding firstFailing

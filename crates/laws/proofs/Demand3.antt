@@ -1,4 +1,4 @@
--- Demand 3 holds of every accepted event of all nine kinds, on every well-formed machine, settled or not.
+-- Demand 3 holds of every accepted event of all eleven kinds, on every well-formed machine, settled or not.
 -- Assumes nothing.
 use mathlib.Core.Path.{_≡_, refl, sym, _∙_, subst}
 use mathlib.Core.Bool.{Bool, true, false, true≢false}
@@ -22,13 +22,14 @@ use Rattle.rules.specs.Demand3.{Demand3, Steps, none-left, Outdone}
 use Rattle.laws.proofs.Checks.{outcome-accepted}
 use Rattle.laws.proofs.Effects.{keep-effect, fresh-well-formed}
 use Rattle.laws.proofs.Choice.{movable-by, none-movable}
+use Rattle.laws.proofs.Online.{idle-online, allows-online}
 use Rattle.laws.proofs.Step.{running-level}
 use Rattle.laws.proofs.Runs.{Run, out, stop, step, settle-run, settle-ends, run-few, run-movers, run-receivers, run-falling, run-well-formed}
 use Rattle.laws.proofs.Apart.{standing-home, standing-away, runnable-fit}
 
 -- where no task is movable, no waiting task is higher than what runs on a CPU it is allowed
 pub nothing-movable : (m : Machine) → WellFormed m → next m ≡ none → (t c : ℕ) → In t (waiting m) → c < m .n → allowed m t c ≡ true → Outdone m t c
-nothing-movable m w n t c i h a = running-level m c (prioOf m t) (w .flags c h) (go (ltb (level m c) (levelOf (prioOf m t))) refl)
+nothing-movable m w n t c i h a = running-level m c (prioOf m t) (omega (arith, idle-online m c (allows-online m (taskOf m t .mask) c a), w .flags c h)) (go (ltb (level m c) (levelOf (prioOf m t))) refl)
   where
     go : (b : Bool) → ltb (level m c) (levelOf (prioOf m t)) ≡ b → levelOf (prioOf m t) ≤ level m c
     go true e =

@@ -1,30 +1,31 @@
 -- A fresh machine is well-formed, and the own effect of every kind keeps a machine well-formed.
 -- Assumes nothing.
 use mathlib.Core.Path.{_≡_, refl, sym, ap, _∙_, subst}
-use mathlib.Core.Bool.{Bool, true, false, cond}
+use mathlib.Core.Bool.{Bool, true, false, cond, _&&_}
 use mathlib.Core.Logic.{_≢_, _⊎_, inl, inr}
 use mathlib.Core.List.{List, [], _∷_}
 use Prim.Native.Nat.{ℕ, zero, suc, _-_, _≤_, _<_, _^_, zero-le}
 use native.Mathlib.Omega.{arith}
 use lib.Dec.{eqb, leb, ltb}
+use lib.Pow.{pow-mono, pow-pos}
 use lib.ListN.{length, getD, set, replicate, length-replicate, getD-replicate, length-set}
 use lib.Seq.{getD-set-same, getD-set-other}
-use borrow.Author.Tests.{eqb-true, eqb-false, leb-true, ltb-true, ltb-false, not-false}
+use borrow.Author.Tests.{eq-eqb, eqb-true, eqb-false, leb-true, not-false}
 use Rattle.bits.specs.Bit.{bit, first, tally}
-use Rattle.bits.proofs.Search.{first-holds, first-before, zero-of-bits}
 use Rattle.cpupri.specs.Found.{maskFits}
 use Rattle.rules.specs.Lists.{occ, In, Falling}
-use Rattle.rules.specs.Machine.{Machine, Task, Column, taskOf, freeTask, prioOf, row, flag, allowed, allows, lowestAllowed, fresh}
+use Rattle.rules.specs.Machine.{Machine, Task, Column, taskOf, freeTask, prioOf, row, flag, allowed, allows, lowestAllowed, stranded, fresh}
 use Rattle.rules.specs.Machine.{free, asleep, runnable, fifo, rr, taskPlaces, cpuPlaces, longestSlice, lowestPriority, highestPriority}
 use Rattle.rules.specs.Machine.{store, write, withFlag, enqueueAt, enqueue, dequeue, requeue}
 use Rattle.rules.specs.WellFormed.{Shape, Fit, Sound, is-free, is-asleep, is-runnable, standing, WellFormed}
 use Rattle.rules.specs.Events.{Event, Kind, effect, effectOf, added, wakeCpu, woken, slept, reprioritised, reaffined, tickedTask, ticked, yielded, toFirst}
-use Rattle.rules.specs.Events.{add, remove, wake, sleep, set-priority, set-affinity, tick, yield, set-ordinary}
+use Rattle.rules.specs.Events.{add, remove, wake, sleep, set-priority, set-affinity, tick, yield, set-ordinary, take-offline, bring-online}
 use Rattle.rules.specs.Refusals.{Passes, checks, refusal}
-use Rattle.laws.proofs.Lists.{same?, in-here}
+use Rattle.laws.proofs.Lists.{same?, in-here, any-none}
 use Rattle.laws.proofs.Rows.{put, store-other, store-same, write-same, shape-store}
 use Rattle.laws.proofs.Apart.{Apart, apart-idle, apart-dequeue, apart-store, apart-write, rejoin-idle, rejoin-at, rejoin-enqueue}
 use Rattle.laws.proofs.Apart.{fit-of, runnable-place, runnable-fit, in-row}
+use Rattle.laws.proofs.Online.{lowest-good, lowest-up, keep-back, keep-offline}
 use Rattle.laws.proofs.Checks.{Accepted, accepted-checks, effect-is, in-range, is-state, between, one-of, mask-good}
 
 -- ---- a fresh machine
@@ -53,6 +54,8 @@ fresh-well-formed n full h l low high =
           (subst (λ (τ : Task). 0 ≡ standing τ c) (sym (all-free t)) refl);
       home = λ t s. absurd (let z : taskOf (fresh n full) t .state ≡ 0 = ap (λ (τ : Task). τ .state) (all-free t) in omega arith);
       falling = λ c. subst (Falling (prioOf (fresh n full))) (sym (empty n c)) tt;
+      online-some = let two : 2 ^ 1 ≤ 2 ^ n = pow-mono h in omega arith;
+      online-fits = let one : 1 ≤ 2 ^ n = pow-pos n in omega arith;
     }
   where
     zeros-long : length {A = ℕ} (replicate taskPlaces 0) ≡ taskPlaces
@@ -135,17 +138,6 @@ sound-with n full τ σ (is-free e) h s f = absurd (h (ap (λ (x : Task). x .sta
 sound-with n full τ σ (is-asleep a g) h s f = is-asleep (s ∙ a) (f g)
 sound-with n full τ σ (is-runnable r g) h s f = is-runnable (s ∙ r) (f g)
 
--- a mask that is not 0 and has no bit at N or above allows a CPU
-pub lowest-good : (k n : ℕ) → 0 < k → k < 2 ^ n → (first (bit k) n < n) × (bit k (first (bit k) n) ≡ true)
-lowest-good k n nonzero small = go (ltb (first (bit k) n) n) refl
-  where
-    go : (b : Bool) → ltb (first (bit k) n) n ≡ b → (first (bit k) n < n) × (bit k (first (bit k) n) ≡ true)
-    go true e = (ltb-true (first (bit k) n) n e, first-holds (bit k) n (ltb-true (first (bit k) n) n e))
-    go false e =
-        let z : k ≡ 0 =
-        zero-of-bits n k small (λ c h. first-before (bit k) n c (omega (arith, ltb-false (first (bit k) n) n e))) in
-        absurd (omega arith)
-
 -- ---- one column of a task that is not runnable, or one that says nothing about rows
 
 module _ (t : ℕ) (m : Machine) (w : WellFormed m) (place : t < taskPlaces) where
@@ -177,6 +169,7 @@ module _ (t : ℕ) (m : Machine) (w : WellFormed m) (place : t < taskPlaces) whe
           mask = k;
           rows = m .rows;
           flags = m .flags;
+          online = m .online;
         }
 
     keep-rest : Shape rest → ((u : ℕ) → u ≢ t → taskOf rest u ≡ taskOf m u) → Sound (m .n) (m .full) (taskOf rest t)
@@ -189,6 +182,8 @@ module _ (t : ℕ) (m : Machine) (w : WellFormed m) (place : t < taskPlaces) whe
           rows = w .rows;
           home = λ u h. home u h (same? u t);
           falling = w .falling;
+          online-some = w .online-some;
+          online-fits = w .online-fits;
         }
       where
         tasks : (u : ℕ) → u < taskPlaces → (u ≡ t) ⊎ (u ≢ t) → Sound (m .n) (m .full) (taskOf rest u)
@@ -220,19 +215,20 @@ module _ (t : ℕ) (m : Machine) (w : WellFormed m) (place : t < taskPlaces) whe
   pub apart-wake : taskOf m t .state ≢ runnable → Apart t (store Column.state t runnable m)
   apart-wake n = apart-store t m (apart-idle t m w n) Column.state runnable
 
-  wake-good : Fit (m .n) (m .full) (taskOf m t) → (wakeCpu m t < m .n) × (allows m (taskOf m t .mask) (wakeCpu m t) ≡ true)
-  wake-good f = go (allows m (taskOf m t .mask) (taskOf m t .cpu)) refl
+  pub wake-good : Fit (m .n) (m .full) (taskOf m t) → stranded m (taskOf m t .mask) ≡ false
+      → (wakeCpu m t < m .n) × (allows m (taskOf m t .mask) (wakeCpu m t) ≡ true)
+  wake-good f up = go (allows m (taskOf m t .mask) (taskOf m t .cpu)) refl
     where
       go : (b : Bool) → allows m (taskOf m t .mask) (taskOf m t .cpu) ≡ b
           → (cond b (taskOf m t .cpu) (lowestAllowed m (taskOf m t .mask)) < m .n)
           × (allows m (taskOf m t .mask) (cond b (taskOf m t .cpu) (lowestAllowed m (taskOf m t .mask))) ≡ true)
       go true e = (f .cpu, e)
-      go false e = lowest-good (taskOf m t .mask) (m .n) (f .mask-some) (f .mask-fits)
+      go false e = lowest-up m (taskOf m t .mask) (f .mask-fits) up
 
-  keep-wake : taskOf m t .state ≡ asleep → WellFormed (woken t m)
-  keep-wake s =
+  keep-wake : taskOf m t .state ≡ asleep → stranded m (taskOf m t .mask) ≡ false → WellFormed (woken t m)
+  keep-wake s up =
       rejoin-enqueue t (wakeCpu m t) (store Column.state t runnable m) (apart-wake (λ h. omega arith)) place
-      (subst (Fit (m .n) (m .full)) (sym new) (fit-state (m .n) (m .full) runnable (taskOf m t) fit)) (ap (λ (τ : Task). τ .state) new) (wake-good fit .0) (wake-good fit .1)
+      (subst (Fit (m .n) (m .full)) (sym new) (fit-state (m .n) (m .full) runnable (taskOf m t) fit)) (ap (λ (τ : Task). τ .state) new) (wake-good fit up .0) (wake-good fit up .1)
     where
       fit : Fit (m .n) (m .full) (taskOf m t)
       fit = fit-of (m .n) (m .full) (taskOf m t) (w .tasks t place) (λ h. omega arith)
@@ -276,11 +272,12 @@ module _ (t : ℕ) (m : Machine) (w : WellFormed m) (place : t < taskPlaces) whe
     pub apart-mask : (k : ℕ) → Apart t (store Column.mask t k (dequeue t home m))
     apart-mask k = apart-store t (dequeue t home m) apart-home Column.mask k
 
-    move-mask : (k : ℕ) → 0 < k → k < 2 ^ m .n → WellFormed (enqueue t (lowestAllowed m k) (store Column.mask t k (dequeue t home m)))
-    move-mask k nonzero small =
+    move-mask : (k : ℕ) → 0 < k → k < 2 ^ m .n → stranded m k ≡ false
+        → WellFormed (enqueue t (lowestAllowed m k) (store Column.mask t k (dequeue t home m)))
+    move-mask k nonzero small up =
         rejoin-enqueue t (lowestAllowed m k) (store Column.mask t k (dequeue t home m)) (apart-mask k) place
-        (subst (Fit (m .n) (m .full)) (sym new) (fit-mask (m .n) (m .full) k (taskOf m t) fit nonzero small)) runs (lowest-good k (m .n) nonzero small .0)
-        (subst (λ (τ : Task). allows m (τ .mask) (lowestAllowed m k) ≡ true) (sym new) (lowest-good k (m .n) nonzero small .1))
+        (subst (Fit (m .n) (m .full)) (sym new) (fit-mask (m .n) (m .full) k (taskOf m t) fit nonzero small)) runs (lowest-up m k small up .0)
+        (subst (λ (τ : Task). allows m (τ .mask) (lowestAllowed m k) ≡ true) (sym new) (lowest-up m k small up .1))
       where
         new : taskOf (store Column.mask t k (dequeue t home m)) t ≡ put Column.mask k (taskOf m t)
         new = store-same Column.mask t k (dequeue t home m) (apart-home .shape) place
@@ -314,8 +311,9 @@ module _ (t : ℕ) (m : Machine) (w : WellFormed m) (place : t < taskPlaces) whe
           (sound-with (m .n) (m .full) (taskOf m t) (put Column.prio v (taskOf m t)) (w .tasks t place) used refl
           (λ f. fit-prio (m .n) (m .full) v (taskOf m t) f low high))
 
-  keep-reaffined : (k : ℕ) → taskOf m t .state ≢ free → 0 < k → k < 2 ^ m .n → WellFormed (reaffined t k m)
-  keep-reaffined k used nonzero small = go (eqb (taskOf m t .state) runnable) refl
+  keep-reaffined : (k : ℕ) → taskOf m t .state ≢ free → 0 < k → k < 2 ^ m .n → (taskOf m t .state ≡ runnable → stranded m k ≡ false)
+      → WellFormed (reaffined t k m)
+  keep-reaffined k used nonzero small up = go (eqb (taskOf m t .state) runnable) refl
     where
       sound : Sound (m .n) (m .full) (put Column.mask k (taskOf m t))
       sound =
@@ -325,7 +323,7 @@ module _ (t : ℕ) (m : Machine) (w : WellFormed m) (place : t < taskPlaces) whe
       queued : (b : Bool) → allows m k (taskOf m t .cpu) ≡ b → taskOf m t .state ≡ runnable
           → WellFormed (cond b (store Column.mask t k m) (enqueue t (lowestAllowed m k) (store Column.mask t k (dequeue t (taskOf m t .cpu) m))))
       queued true e s = keep-mask t m w place k sound (λ h. e)
-      queued false e s = move-mask t m w place s k nonzero small
+      queued false e s = move-mask t m w place s k nonzero small (up s)
 
       go : (b : Bool) → eqb (taskOf m t .state) runnable ≡ b
           → WellFormed (cond b
@@ -403,6 +401,8 @@ module _ (c : ℕ) (m : Machine) (w : WellFormed m) where
         rows = w .rows;
         home = w .home;
         falling = w .falling;
+        online-some = w .online-some;
+        online-fits = w .online-fits;
       }
     where
       s : Shape m
@@ -447,7 +447,7 @@ keep-effectOf m e remove w p =
     idle-write (e .who) m w (in-range taskPlaces (e .who) (p .0)) freeTask (λ h. omega (arith, is-state (taskOf m (e .who) .state) asleep (p .1 .0)))
     (is-free refl) (λ h. omega arith)
 keep-effectOf m e wake w p =
-    keep-wake (e .who) m w (in-range taskPlaces (e .who) (p .0)) (is-state (taskOf m (e .who) .state) asleep (p .1 .0))
+    keep-wake (e .who) m w (in-range taskPlaces (e .who) (p .0)) (is-state (taskOf m (e .who) .state) asleep (p .1 .0)) (p .1 .1 .0)
 keep-effectOf m e sleep w p =
     keep-sleep (e .who) m w (in-range taskPlaces (e .who) (p .0)) (is-state (taskOf m (e .who) .state) runnable (p .1 .0))
 keep-effectOf m e set-priority w p =
@@ -456,9 +456,13 @@ keep-effectOf m e set-priority w p =
 keep-effectOf m e set-affinity w p =
     let k : (0 < e .mask) × (e .mask < 2 ^ m .n) = mask-good (e .mask) (m .n) (not-false (maskFits (m .n) (e .mask)) (p .1 .1 .0)) in
     keep-reaffined (e .who) m w (in-range taskPlaces (e .who) (p .0)) (e .mask) (eqb-false (taskOf m (e .who) .state) free (p .1 .0)) (k .0) (k .1)
+    (λ s. ap (λ (b : Bool). b && stranded m (e .mask)) (sym (eq-eqb (taskOf m (e .who) .state) runnable s)) ∙ p .1 .1 .1 .0)
 keep-effectOf m e tick w p = keep-ticked (e .who) m w
 keep-effectOf m e yield w p = keep-yielded (e .who) m w
 keep-effectOf m e set-ordinary w p = keep-flag (e .who) m w (e .b) (leb-true (e .b) 1 (not-false (leb (e .b) 1) (p .1 .0)))
+keep-effectOf m e take-offline w p =
+    keep-offline (e .who) m w (in-range (m .n) (e .who) (p .0)) (any-none _ (row m (e .who)) (p .1 .0)) (eqb-false _ 0 (p .1 .1 .1 .0))
+keep-effectOf m e bring-online w p = keep-back (e .who) m w (in-range (m .n) (e .who) (p .0))
 
 pub keep-effect : (m : Machine) (e : Event) → WellFormed m → refusal m e ≡ 0 → WellFormed (effect e m)
 keep-effect m e w h =

@@ -13,20 +13,20 @@ use Rattle.bits.proofs.Tests.{and-both}
 use Rattle.cpupri.specs.Record.{recordOf, freshLevels}
 use Rattle.levels.specs.declared.record.Record.{Record}
 use Rattle.rules.specs.Machine.{Machine, Column, taskOf, row, fresh, levels, taskPlaces, cpuPlaces, runnable, rr}
-use Rattle.rules.specs.Machine.{allows, lowestAllowed, store, enqueueAt, enqueue, dequeue, requeue}
+use Rattle.rules.specs.Machine.{allows, lowestAllowed, store, enqueueAt, enqueue, dequeue, requeue, withoutCpu}
 use Rattle.rules.specs.WellFormed.{Shape, WellFormed, wellFormed}
-use Rattle.rules.specs.Events.{Event, Kind, effect, effectOf, tickedTask, toFirst}
-use Rattle.rules.specs.Events.{add, remove, wake, sleep, set-priority, set-affinity, tick, yield, set-ordinary}
+use Rattle.rules.specs.Events.{Event, Kind, effect, effectOf, tickedTask, toFirst, evacuated}
+use Rattle.rules.specs.Events.{add, remove, wake, sleep, set-priority, set-affinity, tick, yield, set-ordinary, take-offline, bring-online}
 use Rattle.rules.specs.Refusals.{Passes, refusal, firstFailing, badSize, illFormed}
 use Rattle.rules.specs.Outcome.{Outcome, outcome, logged}
-use Rattle.rules.specs.Demand3.{Demand3}
+use Rattle.rules.specs.Demand3.{Demand3, mostMoves, onlineCpus}
 use Rattle.rules.specs.Tables.{Tables, machineOf, tablesOf, lengthsFit, tablesFit, recordFits, flatOf, rowCounts, storedRows, nothing, logPlaces}
 use Rattle.rules.specs.Entry.{Good, Result, kept, written, sizeCheck, formCheck, checked, eventAnswer, made, madeBy, handled, handledBy}
 use Rattle.laws.proofs.Bools.{both}
 use Rattle.laws.proofs.Apart.{in-row, runnable-place}
 use Rattle.laws.proofs.Checks.{Accepted, accepted-checks, effect-is, outcome-accepted, outcome-moves, passes, passed}
 use Rattle.laws.proofs.Effects.{fresh-well-formed}
-use Rattle.laws.proofs.Runs.{settle-run, run-keeps}
+use Rattle.laws.proofs.Runs.{settle-run, run-keeps, online-most}
 use Rattle.laws.proofs.Demand3.{demand3, keep-outcome}
 use Rattle.laws.proofs.Room.{row-fits}
 use Rattle.laws.proofs.Test.{size-good, good-size, slice-good, good-slice, shape-shaped, test-well-formed, well-formed-test}
@@ -146,6 +146,7 @@ module _ (m : Machine) (w : WellFormed m) (log : List ℕ) where
         mask = m .mask;
         rows = rs;
         flags = m .flags;
+        online = m .online;
       })
       (read-written (m .rows) fitting)
 
@@ -211,6 +212,11 @@ ticked-fixed t c m =
     three-fixed (eqb (taskOf m t .policy) rr) (eqb (taskOf m t .slice - 1) 0) (store Column.slice t (m .full) (requeue t c m))
     (store Column.slice t (taskOf m t .slice - 1) m) m (fixed m) refl refl refl
 
+evacuated-fixed : (c : ℕ) (ts : List ℕ) (m : Machine) → fixed (evacuated c ts m) ≡ fixed m
+unfolding evacuated
+evacuated-fixed c [] m = refl
+evacuated-fixed c (t ∷ ts) m = evacuated-fixed c ts (enqueue t (lowestAllowed m (taskOf m t .mask)) (dequeue t c m))
+
 effect-fixed : (k : Kind) (e : Event) (m : Machine) → fixed (effectOf k e m) ≡ fixed m
 effect-fixed add e m = refl
 effect-fixed remove e m = refl
@@ -229,6 +235,8 @@ effect-fixed set-affinity e m =
 effect-fixed tick e m = first-fixed (λ t. tickedTask t (e .who) m) m (row m (e .who)) (fixed m) refl (λ t. ticked-fixed t (e .who) m)
 effect-fixed yield e m = first-fixed (λ t. requeue t (e .who) m) m (row m (e .who)) (fixed m) refl (λ t. refl)
 effect-fixed set-ordinary e m = refl
+effect-fixed take-offline e m = evacuated-fixed (e .who) (row m (e .who)) (withoutCpu (e .who) m)
+effect-fixed bring-online e m = refl
 
 -- an accepted event's own effect leaves them, and so does all of it
 pub start-fixed : (m : Machine) (e : Event) → refusal m e ≡ 0 → fixed (effect e m) ≡ fixed m
@@ -320,7 +328,8 @@ module _ (n : ℕ) (r : Record) (s : Tables) (e : Event) (h : eventAnswer n r s 
   log-fits : length (logged (done .log) (s .log)) ≡ logPlaces
   log-fits =
       let start : effect e before .n ≡ n = start-n in
-      let few : done .moves ≤ effect e before .n - 1 = after-demand .few in
+      let few : done .moves ≤ mostMoves (length (onlineCpus (effect e before))) = after-demand .few in
+      let most : length (onlineCpus (effect e before)) ≤ effect e before .n = online-most (effect e before) in
       let count : done .moves ≡ length (done .log) = after-demand .counted .0 in
       let small : n ≤ cpuPlaces = good-before .machine .shape .cpus in
       let long : length (s .log) ≡ logPlaces = good-before .log in

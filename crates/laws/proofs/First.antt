@@ -13,7 +13,7 @@ use Rattle.cpupri.specs.Found.{answerOf, allowedAt, lowestLevel, lowestFound, f
 use Rattle.cpupri.specs.declared.find.Found.the-variants.{Cpus, Nothing}
 use Rattle.rules.specs.Machine.{Machine}
 use Rattle.rules.specs.Events.{Event, Kind, kindOf, byKind}
-use Rattle.rules.specs.Events.{add, remove, wake, sleep, set-priority, set-affinity, tick, yield, set-ordinary}
+use Rattle.rules.specs.Events.{add, remove, wake, sleep, set-priority, set-affinity, tick, yield, set-ordinary, take-offline, bring-online}
 use Rattle.rules.specs.Refusals.{Check, firstFailing, Applies, First, checks, noKind}
 use Rattle.rules.specs.Tables.{Tables, machineOf}
 use Rattle.rules.specs.Entry.{sizeCheck, formCheck, eventAnswer, allChecks}
@@ -79,6 +79,8 @@ rising n r s m e (some set-affinity) = omega arith
 rising n r s m e (some tick) = omega arith
 rising n r s m e (some yield) = omega arith
 rising n r s m e (some set-ordinary) = omega arith
+rising n r s m e (some take-offline) = omega arith
+rising n r s m e (some bring-online) = omega arith
 
 module _ (n : ℕ) (r : Record) (s : Tables) (e : Event) where
   up : Rising 1 (allChecks n r s e)

@@ -13,13 +13,14 @@ use borrow.Author.Tests.{ltb-true, ltb-false}
 use lib.ListN.{length, getD, drop, length-map, List·getD-map}
 use lib.Seq.{getD-take, getD-drop}
 use Rattle.bits.specs.Bit.{bit}
+use Rattle.bits.proofs.Tests.{and-both}
 use Rattle.levels.specs.declared.record.Record.{Record}
 use Rattle.rules.specs.Lists.{occ, In, place}
 use Rattle.rules.specs.Machine.{Machine, taskOf, prioOf, row, head, running, taskPlaces, runnable}
 use Rattle.rules.specs.Events.{Event, effect}
 use Rattle.rules.specs.Migration.{Move, waiting}
 use Rattle.rules.specs.Outcome.{outcome, logged, entryNumbers, entryWidth}
-use Rattle.rules.specs.Demand3.{Demand3, Outdone, movers, receivers}
+use Rattle.rules.specs.Demand3.{Demand3, Outdone, mostMoves, onlineCpus, movers, receivers}
 use Rattle.rules.specs.Tables.{Tables, machineOf, rowsOf}
 use Rattle.rules.specs.Entry.{Good, Result, eventAnswer, handled}
 use Rattle.rules.specs.LentDemand3.{LentDemand3, Entries, entryAt, moverAt, receiverAt, taskAt, Busy}
@@ -28,7 +29,7 @@ use Rattle.laws.proofs.Order.{place-is, place-lt}
 use Rattle.laws.proofs.Apart.{in-row, row-in, once, runnable-fit}
 use Rattle.laws.proofs.Tables.{row-at, write-read, stored-test}
 use Rattle.laws.proofs.Log.{logged-entry, noMove}
-use Rattle.laws.proofs.Entry.{handled-good, handled-demand3, handled-moves, handled-log, start-n}
+use Rattle.laws.proofs.Entry.{handled-good, handled-demand3, handled-moves, handled-log}
 
 -- ---- lists by their places
 
@@ -164,7 +165,7 @@ module _ (n : ℕ) (r : Record) (s : Tables) (e : Event) (h : eventAnswer n r s 
   pub handled-lent : LentDemand3 n (result .moves) start (result .tables)
   handled-lent =
       record {
-        few = subst (λ (k : ℕ). result .moves ≤ k - 1) (start-n n r s e h) (subst (λ (k : ℕ). k ≤ start .n - 1) (demand .counted .0 ∙ sym count) (demand .few));
+        few = subst (λ (k : ℕ). k ≤ mostMoves (length (onlineCpus start))) (demand .counted .0 ∙ sym count) (demand .few);
         no-task-twice = λ i j l k q.
             once-each (movers log) (demand .no-task-twice) i j l (movers-long j k) (sym (mover i (omega arith)) ∙ q ∙ mover j k);
         no-cpu-twice = λ i j l k q.
@@ -175,7 +176,7 @@ module _ (n : ℕ) (r : Record) (s : Tables) (e : Event) (h : eventAnswer n r s 
             subst (λ (t : ℕ). getD (start .prio) (moverAt (result .tables) j) 0 ≤ getD (start .prio) t 0) (sym (mover i (omega arith)))
             (subst (λ (t : ℕ). getD (start .prio) t 0 ≤ getD (start .prio) (getD (movers log) i 0) 0) (sym (mover j k)) low);
         counted = (log, demand .counted .1, count, entries-are log (s .log) (result .tables) (handled-log n r s e h));
-        closing = λ c p d l z k m a. closing c p d l z k m a;
+        closing = λ c p d l z k m a b. closing c p d l z k m a b;
         stands = stands-at n (result .cpupri) (result .tables) good;
       }
     where
@@ -205,10 +206,10 @@ module _ (n : ℕ) (r : Record) (s : Tables) (e : Event) (h : eventAnswer n r s 
 
       closing : (c p d : ℕ) → c < n → 0 < p → p < getD (result .tables .counts) c 0 → d < n
           → bit (getD (result .tables .mask) (taskAt (result .tables) c p) 0) d ≡ true
-          → Busy (result .tables) d
+          → bit (result .tables .online) d ≡ true → Busy (result .tables) d
           × (getD (result .tables .prio) (taskAt (result .tables) c p) 0 ≤ getD (result .tables .prio) (taskAt (result .tables) d 0) 0)
-      closing c p d l z k m a =
+      closing c p d l z k m a b =
           let o : Outdone (machineOf n (result .tables)) (taskAt (result .tables) c p) d =
-          demand .closing (taskAt (result .tables) c p) d (waits-at n (result .cpupri) (result .tables) good c p l z k) m a in
+          demand .closing (taskAt (result .tables) c p) d (waits-at n (result .cpupri) (result .tables) good c p l z k) m (and-both _ _ a b) in
           let u : Busy (result .tables) d × (taskAt (result .tables) d 0 ≡ o .0) = runs-at n (result .cpupri) (result .tables) good d (o .0) (o .1) in
           (u .0, subst (λ (t : ℕ). getD (result .tables .prio) (taskAt (result .tables) c p) 0 ≤ getD (result .tables .prio) t 0) (sym (u .1)) (o .2))

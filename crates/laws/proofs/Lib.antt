@@ -3,6 +3,7 @@ pub mod Bools
 pub mod Lists
 pub mod Rows
 pub mod Apart
+pub mod Online
 pub mod Checks
 pub mod Effects
 pub mod Order

@@ -1,7 +1,7 @@
 -- The laws of lists that the rules rest on: standing in a list, joining and leaving a queue, the pigeonhole, and who is best.
 -- Assumes nothing.
 use mathlib.Core.Path.{_≡_, refl, sym, ap, _∙_, subst}
-use mathlib.Core.Bool.{Bool, true, false, cond, _||_, false≢true}
+use mathlib.Core.Bool.{Bool, true, false, cond, _||_, true≢false, false≢true}
 use mathlib.Core.Logic.{_≢_, _⊎_, inl, inr}
 use mathlib.Core.List.{List, [], _∷_, _++_, map, tail}
 use Prim.Native.Nat.{ℕ, zero, suc, _+_, _≤_, _<_, zero-le, suc-le-suc}
@@ -138,6 +138,23 @@ length-le (y ∷ l) xs h =
     let ih : length l ≤ length (delete y xs) = length-le l (delete y xs) (λ x. omega (arith, occ-delete y x xs i, occ-cons x y l, h x)) in
     omega (arith, length-delete y xs i)
 
+-- different numbers that all stand in xs
+pub within : (l xs : List ℕ) → ((x : ℕ) → occ x l ≤ 1) → ((x : ℕ) → In x l → In x xs) → length l ≤ length xs
+within l xs once all = length-le l xs (λ x. go x (occ x l) refl)
+  where
+    go : (x n : ℕ) → occ x l ≡ n → occ x l ≤ occ x xs
+    go x zero e = omega arith
+    go x (suc n) e = let j : In x xs = all x (omega arith) in omega (arith, once x)
+
+pub length-select : (p : ℕ → Bool) (xs : List ℕ) → length (select p xs) ≤ length xs
+unfolding select
+length-select p [] = omega arith
+length-select p (x ∷ xs) = go (p x) (length-select p xs)
+  where
+    go : (b : Bool) → length (select p xs) ≤ length xs → length (cond b (x ∷ select p xs) (select p xs)) ≤ suc (length xs)
+    go true h = omega arith
+    go false h = omega arith
+
 pub length-from : (i k : ℕ) → length (from i k) ≡ k
 unfolding from
 length-from i zero = refl
@@ -224,6 +241,13 @@ some-any p x (y ∷ ys) h t = go (p y) refl (in-cons x y ys h) (λ i. some-any p
     go true e s ih = refl
     go false e (inl s) ih = absurd (false≢true (sym e ∙ ap p (sym s) ∙ t))
     go false e (inr i) ih = ih i
+
+pub any-none : (p : ℕ → Bool) (xs : List ℕ) → any p xs ≡ false → (x : ℕ) → In x xs → p x ≡ false
+any-none p xs h x i = go (p x) refl
+  where
+    go : (b : Bool) → p x ≡ b → p x ≡ false
+    go true e = absurd (true≢false (sym (some-any p x xs i e) ∙ h))
+    go false e = e
 
 -- ---- all but the first of each
 

@@ -88,7 +88,7 @@ write-same t τ m s h =
 module _ (m : Machine) (s : Shape m) where
   pub shape-columns : (a b c d e f : List ℕ) → length a ≡ taskPlaces → length b ≡ taskPlaces → length c ≡ taskPlaces → length d ≡ taskPlaces
       → length e ≡ taskPlaces → length f ≡ taskPlaces
-      → Shape (record { n = m .n; full = m .full; state = a; policy = b; prio = c; cpu = d; slice = e; mask = f; rows = m .rows; flags = m .flags })
+      → Shape (record { n = m .n; full = m .full; state = a; policy = b; prio = c; cpu = d; slice = e; mask = f; rows = m .rows; flags = m .flags; online = m .online })
   shape-columns a b c d e f ha hb hc hd he hf =
       record {
         some-cpu = s .some-cpu;

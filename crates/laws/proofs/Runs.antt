@@ -1,5 +1,6 @@
 -- All steps of an event, as a relation: inductions over the steps go over it. The steps end because nothing is movable.
 -- Assumes nothing.
+use mathlib.Core.Bool.{true}
 use mathlib.Core.Path.{_≡_, refl, sym, ap, _∙_, subst}
 use mathlib.Core.Logic.{_≢_, _⊎_, inl, inr}
 use mathlib.Core.List.{List, [], _∷_}
@@ -8,13 +9,15 @@ use Prim.Native.Nat.{ℕ, zero, suc, _≤_, _<_}
 use native.Mathlib.Nat.{not-suc-le-zero, le-of-suc-le-suc}
 use native.Mathlib.Omega.{arith}
 use lib.ListN.{length, getD, length-map}
-use Rattle.rules.specs.Lists.{occ, In, Falling}
-use Rattle.rules.specs.Machine.{Machine, taskOf, prioOf, row, head, running, level, levelOf}
+use Rattle.bits.specs.Bit.{bit, first}
+use Rattle.rules.specs.Lists.{occ, In, Falling, below}
+use Rattle.rules.specs.Machine.{Machine, taskOf, prioOf, row, head, running, isOnline, level, levelOf}
 use Rattle.rules.specs.WellFormed.{WellFormed}
 use Rattle.rules.specs.Migration.{Move, Chosen, Settled, onward, next, migrate, settle, settleAll}
-use Rattle.rules.specs.Demand3.{movers, receivers}
-use Rattle.laws.proofs.Lists.{same?, digit-same, digit-other, occ-cons, occ-nil, in-here, in-cons, not-in-nil, in-tails, pigeonhole}
+use Rattle.rules.specs.Demand3.{movers, receivers, onlineCpus}
+use Rattle.laws.proofs.Lists.{same?, digit-same, digit-other, occ-cons, occ-nil, in-here, in-cons, not-in-nil, in-tails, in-below, in-select, within, length-select, length-from}
 use Rattle.laws.proofs.Apart.{in-row, once}
+use Rattle.laws.proofs.Online.{lowest-good, home-online, allows-online}
 use Rattle.laws.proofs.Choice.{chosen}
 use Rattle.laws.proofs.Step.{Cap, cap-step, keep-step, origin-small, origin-level, target-level, target-runs, same-runs, levels-rise}
 use Rattle.laws.proofs.Step.{level-running}
@@ -133,15 +136,44 @@ receivers-small w (step {m = m} {v = v} {l = l} h r) c i =
     go (inl e) ih = subst (λ (x : ℕ). x < m .n) (sym e) (chosen m v w h .small)
     go (inr j) ih = ih j
 
--- ---- at most N - 1 steps
+-- every receiver is online
+pub receivers-online : {k : ℕ} {m : Machine} {l : List Move} {e : Machine} → WellFormed m → Run k m l e → (c : ℕ) → In c (receivers l) → isOnline m c ≡ true
+receivers-online w out c i = absurd (not-in-nil c i)
+receivers-online w (stop h) c i = absurd (not-in-nil c i)
+receivers-online w (step {m = m} {v = v} {l = l} h r) c i =
+    go (in-cons c (v .target) (receivers l) i) (receivers-online (keep-step m v w (chosen m v w h)) r c)
+  where
+    go : (c ≡ v .target) ⊎ In c (receivers l) → (In c (receivers l) → isOnline m c ≡ true) → isOnline m c ≡ true
+    go (inl e) ih = subst (λ (x : ℕ). isOnline m x ≡ true) (sym e) (allows-online m (taskOf m (v .task) .mask) (v .target) (chosen m v w h .may))
+    go (inr j) ih = ih j
+
+-- ---- fewer steps than CPUs are online
+
+in-online : (m : Machine) (c : ℕ) → c < m .n → isOnline m c ≡ true → In c (onlineCpus m)
+in-online m c h on = in-select (isOnline m) c (below (m .n)) (in-below (m .n) c h) on
+
+some-online : (m : Machine) → WellFormed m → 1 ≤ length (onlineCpus m)
+some-online m w = within (at ∷ []) (onlineCpus m) (λ x. at-most-once x at [] (λ i. not-in-nil at i) (omega (arith, occ-nil x))) (λ x i. up x (in-cons x at [] i))
+  where
+    at : ℕ
+    at = first (bit (m .online)) (m .n)
+
+    up : (x : ℕ) → (x ≡ at) ⊎ In x [] → In x (onlineCpus m)
+    up x (inl e) =
+        let good = lowest-good (m .online) (m .n) (w .online-some) (w .online-fits) in
+        subst (λ (y : ℕ). In y (onlineCpus m)) (sym e) (in-online m at (good .0) (good .1))
+    up x (inr j) = absurd (not-in-nil x j)
+
+pub online-most : (m : Machine) → length (onlineCpus m) ≤ m .n
+online-most m = omega (arith, length-from 0 (m .n), length-select (isOnline m) (below (m .n)))
 
 -- the first mover's own CPU never receives, and the others receive at most once
-pub run-few : {k : ℕ} {m : Machine} {l : List Move} {e : Machine} → WellFormed m → Run k m l e → suc (length l) ≤ m .n
-run-few w out = w .shape .some-cpu
-run-few w (stop h) = w .shape .some-cpu
+pub run-few : {k : ℕ} {m : Machine} {l : List Move} {e : Machine} → WellFormed m → Run k m l e → suc (length l) ≤ length (onlineCpus m)
+run-few {m = m} w out = some-online m w
+run-few {m = m} w (stop h) = some-online m w
 run-few w (step {k = k} {m = m} {v = v} {l = l} {e = e} h r) =
-    subst (λ (x : ℕ). suc x ≤ m .n) (length-map (v ∷ l) (λ (v : Move). v .target))
-    (pigeonhole (m .n) (v .origin ∷ receivers (v ∷ l)) different small)
+    subst (λ (x : ℕ). suc x ≤ length (onlineCpus m)) (length-map (v ∷ l) (λ (v : Move). v .target))
+    (within (v .origin ∷ receivers (v ∷ l)) (onlineCpus m) different (λ x i. in-online m x (small x i) (up x i)))
   where
     all : Run (suc k) m (v ∷ l) e
     all = step h r
@@ -160,6 +192,13 @@ run-few w (step {k = k} {m = m} {v = v} {l = l} {e = e} h r) =
         go : (x ≡ v .origin) ⊎ In x (receivers (v ∷ l)) → x < m .n
         go (inl e) = subst (λ (x : ℕ). x < m .n) (sym e) (origin-small m v w s)
         go (inr j) = receivers-small w all x j
+
+    up : (x : ℕ) → In x (v .origin ∷ receivers (v ∷ l)) → isOnline m x ≡ true
+    up x i = go (in-cons x (v .origin) (receivers (v ∷ l)) i)
+      where
+        go : (x ≡ v .origin) ⊎ In x (receivers (v ∷ l)) → isOnline m x ≡ true
+        go (inl e) = subst (λ (y : ℕ). isOnline m y ≡ true) (s .origin ∙ sym e) (home-online m (v .task) w (s .runs))
+        go (inr j) = receivers-online w all x j
 
 -- ---- a task that moved runs to the end, and moves no more
 
@@ -246,12 +285,12 @@ run-end (step {k = k} {l = l} {e = e} h r) = go (run-end r)
     go (inl s) = inl (ap suc s)
     go (inr n) = inr n
 
--- never the bound: N - 1 steps are enough
+-- never the bound: there are fewer steps than CPUs online
 pub settle-ends : (k : ℕ) (m : Machine) → WellFormed m → m .n ≤ k → next (settle k m .machine) ≡ none
 settle-ends k m w h = go (run-end (settle-run k m))
   where
     go : (length (settle k m .log) ≡ k) ⊎ (next (settle k m .machine) ≡ none) → next (settle k m .machine) ≡ none
-    go (inl e) = absurd (omega (arith, run-few w (settle-run k m)))
+    go (inl e) = absurd (omega (arith, run-few w (settle-run k m), online-most m))
     go (inr n) = n
 
 -- where no step applies any more, a larger bound changes nothing

@@ -11,7 +11,7 @@ use lib.Dec.{ltb}
 use lib.ListN.{length}
 use borrow.Author.Tests.{lt-ltb}
 use Rattle.rules.specs.Lists.{occ, In, Falling, below, insertBefore, delete}
-use Rattle.rules.specs.Machine.{Machine, taskOf, prioOf, row, flag, head, running, rowLevel, level, levelOf, allowed, taskPlaces}
+use Rattle.rules.specs.Machine.{Machine, taskOf, prioOf, row, idleLevel, head, running, rowLevel, level, levelOf, allowed, taskPlaces}
 use Rattle.rules.specs.Machine.{queued, enqueue, dequeue}
 use Rattle.rules.specs.WellFormed.{WellFormed}
 use Rattle.rules.specs.Migration.{Move, Chosen, waiting, movable, migrate}
@@ -32,13 +32,13 @@ level-head p f (x ∷ xs) (y ∷ ys) e = let s : x ≡ y = cc in ap (λ (z : ℕ
 
 -- the level of a CPU on which a task runs
 pub level-running : (m : Machine) (c t : ℕ) → running m c ≡ some t → level m c ≡ levelOf (prioOf m t)
-level-running m c t e = level-head (prioOf m) (flag m c) (row m c) (t ∷ []) e
+level-running m c t e = level-head (prioOf m) (idleLevel m c) (row m c) (t ∷ []) e
 
 -- a level that is no idle and no ordinary one is that of a task
-pub running-level : (m : Machine) (c p : ℕ) → flag m c ≤ 1 → levelOf p ≤ level m c → (u : ℕ) × (running m c ≡ some u) × (p ≤ prioOf m u)
+pub running-level : (m : Machine) (c p : ℕ) → idleLevel m c ≤ 1 → levelOf p ≤ level m c → (u : ℕ) × (running m c ≡ some u) × (p ≤ prioOf m u)
 running-level m c p f h = go (row m c) refl h
   where
-    go : (r : List ℕ) → row m c ≡ r → levelOf p ≤ rowLevel (prioOf m) (flag m c) r → (u : ℕ) × (head (row m c) ≡ some u) × (p ≤ prioOf m u)
+    go : (r : List ℕ) → row m c ≡ r → levelOf p ≤ rowLevel (prioOf m) (idleLevel m c) r → (u : ℕ) × (head (row m c) ≡ some u) × (p ≤ prioOf m u)
     go [] e h = absurd (omega arith)
     go (u ∷ us) e h = (u, ap head e, omega arith)
 
@@ -112,7 +112,7 @@ module _ (m : Machine) (v : Move) (w : WellFormed m) (k : Chosen m v) where
       ∙ ap (queued (prioOf m t) (prioOf m) t) (row-other m (v .origin) (v .target) (delete t (row m (v .origin))) apart)
       ∙ front (row m (v .target)) (k .below)
     where
-      front : (r : List ℕ) → rowLevel (prioOf m) (flag m (v .target)) r < levelOf (prioOf m t) → queued (prioOf m t) (prioOf m) t r ≡ t ∷ r
+      front : (r : List ℕ) → rowLevel (prioOf m) (idleLevel m (v .target)) r < levelOf (prioOf m t) → queued (prioOf m t) (prioOf m) t r ≡ t ∷ r
       front [] h = refl
       front (y ∷ ys) h =
           ap (λ (b : Bool). cond b (t ∷ y ∷ ys) (y ∷ insertBefore (λ u. ltb (prioOf m u) (prioOf m t)) t ys))
@@ -151,7 +151,7 @@ module _ (m : Machine) (v : Move) (w : WellFormed m) (k : Chosen m v) where
     where
       go : (c ≡ v .target) ⊎ (c ≢ v .target) → level m c ≤ level moved c
       go (inl e) = subst (λ (c : ℕ). level m c ≤ level moved c) (sym e) (omega (arith, k .below, target-level))
-      go (inr n) = let s : level moved c ≡ level m c = level-head (prioOf m) (flag m c) (row moved c) (row m c) (same-runs c n) in omega arith
+      go (inr n) = let s : level moved c ≡ level m c = level-head (prioOf m) (idleLevel m c) (row moved c) (row m c) (same-runs c n) in omega arith
 
   -- who waits now waited before, or ran on the destination
   pub waits-now : (u : ℕ) → In u (waiting moved) → In u (waiting m) ⊎ (running m (v .target) ≡ some u)

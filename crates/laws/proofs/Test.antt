@@ -15,7 +15,7 @@ use Rattle.rules.specs.Machine.{Machine, Task, taskOf, freeTask, prioOf, row, f
 use Rattle.rules.specs.Machine.{lowestPriority, highestPriority, longestSlice}
 use Rattle.rules.specs.WellFormed.{Shape, Fit, Sound, is-free, is-asleep, is-runnable, standing, WellFormed}
 use Rattle.rules.specs.WellFormed.{sliceFits, shaped, gathered, tasks, zeros, fits, soundTask, falls, soundRow, wellFormed}
-use Rattle.cpupri.specs.Found.{sizeFits}
+use Rattle.cpupri.specs.Found.{sizeFits, maskFits}
 use Rattle.bits.proofs.Tests.{and-both}
 use Rattle.laws.proofs.Bools.{both}
 use Rattle.laws.proofs.Checks.{mask-good, good-mask}
@@ -267,13 +267,18 @@ test-well-formed m h t =
       rows = λ u c. rows u c (occ u (row m c)) refl;
       home = λ u r. task u (used u r) .1 r .1;
       falling = λ c. falling c (ltb c (m .n)) refl;
+      online-some = mask-good (m .online) (m .n) (parts .1) .0;
+      online-fits = mask-good (m .online) (m .n) (parts .1) .1;
     }
   where
     s : Shape m
     s = shaped-shape m h
 
+    parts : (each (soundTask m) 0 (tasks m) && each (soundRow m) 0 (m .rows) && each (λ c f. leb f 1) 0 (m .flags) ≡ true) × (maskFits (m .n) (m .online) ≡ true)
+    parts = both _ _ t
+
     tests : (each (soundTask m) 0 (tasks m) && each (soundRow m) 0 (m .rows) ≡ true) × (each (λ c f. leb f 1) 0 (m .flags) ≡ true)
-    tests = both _ _ t
+    tests = both _ _ (parts .0)
 
     front : (each (soundTask m) 0 (tasks m) ≡ true) × (each (soundRow m) 0 (m .rows) ≡ true)
     front = both _ _ (tests .0)
@@ -323,7 +328,10 @@ test-well-formed m h t =
 
 -- and a well-formed one passes it
 pub well-formed-test : (m : Machine) → WellFormed m → (shaped m ≡ true) × (wellFormed m ≡ true)
-well-formed-test m w = (shape-shaped m (w .shape), and-both _ _ (and-both _ _ each-task each-row) each-flag)
+well-formed-test m w = (
+  shape-shaped m (w .shape),
+  and-both _ _ (and-both _ _ (and-both _ _ each-task each-row) each-flag) (good-mask (m .online) (m .n) (w .online-some) (w .online-fits)),
+)
   where
     each-task : each (soundTask m) 0 (tasks m) ≡ true
     each-task =

@@ -11,8 +11,9 @@ use lib.Dec.{eqb, ltb}
 use lib.ListN.{length, getD}
 use lib.Seq.{set-out}
 use borrow.Author.Tests.{ltb-true, ltb-false, lt-ltb, eqb-true, eq-eqb, ne-eqb}
+use Rattle.bits.specs.Bit.{bit}
 use Rattle.rules.specs.Lists.{occ, In, Falling, insertBefore, delete}
-use Rattle.rules.specs.Machine.{Machine, Task, Column, taskOf, prioOf, row, flag, head, running, rowLevel, level, levelOf, allowed, allows, runnable, store, write, withRow, withFlag, queued, entryKey, enqueueAt, dequeue}
+use Rattle.rules.specs.Machine.{Machine, Task, Column, taskOf, prioOf, row, flag, isOnline, idleLevel, head, running, rowLevel, level, levelOf, invalid, allowed, allows, runnable, store, write, withRow, withFlag, queued, entryKey, enqueueAt, dequeue}
 use Rattle.rules.specs.WellFormed.{WellFormed}
 use Rattle.rules.specs.Migration.{waiting, movable, next}
 use Rattle.rules.specs.Plan.{Plan, left, wrote, carried, When, Doable}
@@ -21,6 +22,7 @@ use Rattle.laws.proofs.Bools.{both}
 use Rattle.laws.proofs.Lists.{same?, digit-same, in-here, in-there, in-cons, not-in-nil, in-delete, occ-delete, delete-behind, in-tails, tails-in}
 use Rattle.laws.proofs.Rows.{row-same, row-other, store-other, write-other}
 use Rattle.laws.proofs.Apart.{in-row, row-in, once, runnable-fit, apart-dequeue, apart-idle}
+use Rattle.laws.proofs.Online.{idle-online, row-online, allows-online}
 use Rattle.laws.proofs.Choice.{movable-by, none-movable}
 use Rattle.laws.proofs.Limited.{holds-some, some-holds, none-some, delete-first, in-delete-other, waits-in, first-in, runs-not-waits}
 
@@ -93,27 +95,29 @@ pub record Touches (t : ℕ) (m m′ : Machine) : Type 0 where
   pub flags : (c : ℕ) → flag m′ c ≡ flag m c
   pub rows : (c : ℕ) → delete t (row m′ c) ≡ delete t (row m c)
   pub prio : (u : ℕ) → u ≢ t → prioOf m′ u ≡ prioOf m u
+  pub online : m′ .online ≡ m .online
   pub allowed : (u c : ℕ) → u ≢ t → allowed m′ u c ≡ allowed m u c
 
 module _ (t : ℕ) (m m′ : Machine) (w : WellFormed m) (w′ : WellFormed m′) (k : Touches t m m′) where
   -- a level falls only where t ran
   pub levels-touched : (c : ℕ) → c < m .n → (level m c ≤ level m′ c) ⊎ (running m c ≡ some t)
-  levels-touched c s = go (row m c) (row m′ c) (k .rows c) (w′ .falling c)
+  levels-touched c s = go (row m c) (row m′ c) refl (k .rows c) (w′ .falling c)
     where
-      flat : flag m′ c ≡ flag m c
-      flat = k .flags c
+      flat : idleLevel m′ c ≡ idleLevel m c
+      flat = ap (λ (x : ℕ). cond (bit x c) (flag m′ c) invalid) (k .online) ∙ ap (λ (x : ℕ). cond (isOnline m c) x invalid) (k .flags c)
 
-      low : flag m c ≤ 1
-      low = w .flags c s
+      -- where a task stands now, the CPU is online, and was
+      low : (y : ℕ) → In y (row m′ c) → idleLevel m c ≤ 1
+      low y i = omega (arith, idle-online m c (ap (λ (x : ℕ). bit x c) (sym (k .online)) ∙ row-online m′ y c w′ i), w .flags c s)
 
-      go : (r r′ : List ℕ) → delete t r′ ≡ delete t r → Falling (prioOf m′) r′
-          → (rowLevel (prioOf m) (flag m c) r ≤ rowLevel (prioOf m′) (flag m′ c) r′) ⊎ (head r ≡ some t)
-      go [] [] d f = inl (omega (arith, flat))
-      go [] (y ∷ ys) d f = inl (omega (arith, low))
-      go (h ∷ r) r′ d f = pick (same? h t)
+      go : (r r′ : List ℕ) → row m′ c ≡ r′ → delete t r′ ≡ delete t r → Falling (prioOf m′) r′
+          → (rowLevel (prioOf m) (idleLevel m c) r ≤ rowLevel (prioOf m′) (idleLevel m′ c) r′) ⊎ (head r ≡ some t)
+      go [] [] e d f = inl (omega (arith, flat))
+      go [] (y ∷ ys) e d f = inl (omega (arith, low y (subst (In y) (sym e) (in-here y ys))))
+      go (h ∷ r) r′ e d f = pick (same? h t)
         where
           stays : h ≢ t → (r′ : List ℕ) → delete t r′ ≡ h ∷ delete t r → Falling (prioOf m′) r′
-              → levelOf (prioOf m h) ≤ rowLevel (prioOf m′) (flag m′ c) r′
+              → levelOf (prioOf m h) ≤ rowLevel (prioOf m′) (idleLevel m′ c) r′
           stays n [] d f = absurd (let z : _≡_ {A = ℕ} 0 1 = cc (delete-nil t) in omega arith)
           stays n (y ∷ ys) d f = which (same? y t)
             where
@@ -131,7 +135,7 @@ module _ (t : ℕ) (m m′ : Machine) (w : WellFormed m) (w′ : WellFormed m′
                   let l : prioOf m′ y ≡ prioOf m′ h = ap (prioOf m′) e in
                   omega (arith, same)
 
-          pick : (h ≡ t) ⊎ (h ≢ t) → (levelOf (prioOf m h) ≤ rowLevel (prioOf m′) (flag m′ c) r′) ⊎ (some h ≡ some t)
+          pick : (h ≡ t) ⊎ (h ≢ t) → (levelOf (prioOf m h) ≤ rowLevel (prioOf m′) (idleLevel m′ c) r′) ⊎ (some h ≡ some t)
           pick (inl e) = inr (ap (λ (x : ℕ). some x) e)
           pick (inr n) = inl (stays n r′ (d ∙ delete-behind t h r (λ x. n (sym x))) f)
 
@@ -333,7 +337,7 @@ module _ (t : ℕ) (m m′ : Machine) (w : WellFormed m) (w′ : WellFormed m′
 -- ---- what touches one task
 
 pub touches-none : (t : ℕ) (m : Machine) → Touches t m m
-touches-none t m = record { n = refl; flags = λ c. refl; rows = λ c. refl; prio = λ u o. refl; allowed = λ u c o. refl }
+touches-none t m = record { n = refl; flags = λ c. refl; rows = λ c. refl; prio = λ u o. refl; online = refl; allowed = λ u c o. refl }
 
 pub touches-both : (t : ℕ) (a b c : Machine) → Touches t a b → Touches t b c → Touches t a c
 touches-both t a b c x y =
@@ -342,13 +346,14 @@ touches-both t a b c x y =
       flags = λ d. y .flags d ∙ x .flags d;
       rows = λ d. y .rows d ∙ x .rows d;
       prio = λ u o. y .prio u o ∙ x .prio u o;
+      online = y .online ∙ x .online;
       allowed = λ u d o. y .allowed u d o ∙ x .allowed u d o;
     }
 
 -- its columns
 module _ (t : ℕ) (m : Machine) (a b c d e f : List ℕ) where
   abbrev other : Machine
-  other = record { n = m .n; full = m .full; state = a; policy = b; prio = c; cpu = d; slice = e; mask = f; rows = m .rows; flags = m .flags }
+  other = record { n = m .n; full = m .full; state = a; policy = b; prio = c; cpu = d; slice = e; mask = f; rows = m .rows; flags = m .flags; online = m .online }
 
   touches-columns : ((u : ℕ) → u ≢ t → taskOf other u ≡ taskOf m u) → Touches t m other
   touches-columns same =
@@ -357,6 +362,7 @@ module _ (t : ℕ) (m : Machine) (a b c d e f : List ℕ) where
         flags = λ c. refl;
         rows = λ c. refl;
         prio = λ u o. ap (λ (τ : Task). τ .prio) (same u o);
+        online = refl;
         allowed = λ u c o. ap (λ (τ : Task). allows m (τ .mask) c) (same u o);
       }
 
@@ -374,7 +380,7 @@ touches-write t τ m = touches-columns t m _ _ _ _ _ _ (λ u n. write-other t u 
 -- a row, which is the same without it
 pub touches-row : (t c : ℕ) (r : List ℕ) (m : Machine) → delete t r ≡ delete t (row m c) → Touches t m (withRow c r m)
 touches-row t c r m h =
-    record { n = refl; flags = λ d. refl; rows = λ d. rows d (same? d c); prio = λ u o. refl; allowed = λ u d o. refl }
+    record { n = refl; flags = λ d. refl; rows = λ d. rows d (same? d c); prio = λ u o. refl; online = refl; allowed = λ u d o. refl }
   where
     at : (b : Bool) → ltb c (length (m .rows)) ≡ b → delete t (row (withRow c r m) c) ≡ delete t (row m c)
     at true e = ap (delete t) (row-same m c r (ltb-true c (length (m .rows)) e)) ∙ h
@@ -459,11 +465,11 @@ limited-flag m c b w e =
     record {
       small = λ c h. absurd (none-some c h);
       waits = λ t h. absurd (none-some t h);
-      only = λ u d i s a h. absurd (go d (row m d) (w .flags d s) (prioOf m u) (settled-above m u d e i s a) h);
+      only = λ u d i s a h. absurd (go d (row m d) (w .flags d s) (allows-online m (taskOf m u .mask) d a) (prioOf m u) (settled-above m u d e i s a) h);
       quiet = λ x c u d h. absurd (none-some x h);
     }
   where
-    go : (d : ℕ) (r : List ℕ) → flag m d ≤ 1 → (p : ℕ) → levelOf p ≤ rowLevel (prioOf m) (flag m d) r
-        → rowLevel (prioOf m) (flag (withFlag c b m) d) r < levelOf p → ⊥
-    go d [] l p x y = omega arith
-    go d (z ∷ zs) l p x y = omega arith
+    go : (d : ℕ) (r : List ℕ) → flag m d ≤ 1 → isOnline m d ≡ true → (p : ℕ) → levelOf p ≤ rowLevel (prioOf m) (idleLevel m d) r
+        → rowLevel (prioOf m) (idleLevel (withFlag c b m) d) r < levelOf p → ⊥
+    go d [] l on p x y = omega (arith, idle-online m d on)
+    go d (z ∷ zs) l on p x y = omega arith

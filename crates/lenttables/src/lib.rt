@@ -1,7 +1,9 @@
 // The ten tables that a caller lends, their lengths, and the full slice.
 ghost use mathlib.Core.Path.{_≡_};
 ghost use Rattle.rules.specs.Tables.{lengthsFit};
-ghost use Rattle.lenttables.specs.Lent.{oldTables, sizesFit};
+ghost use Prim.Native.Nat.{ℕ};
+ghost use Rattle.bits.specs.Moments.{old};
+ghost use Rattle.lenttables.specs.Lent.{lent, sizesFit};
 use cpupri::record::CPUS;
 use rules::log::LOG;
 use rules::task::LONGEST_SLICE;
@@ -42,7 +44,7 @@ pub fn sizes_fit(
         & (log == LOG)
 }
 
-// The same of tables that are at hand.
+// The same of tables that are at hand, whatever the online mask.
 pub fn lengths_fit(
     n: usize,
     full: u32,
@@ -57,7 +59,8 @@ pub fn lengths_fit(
     flags: &[u8],
     log: &[u16],
 ) -> bool
-    ensures { λ b. ⌜ b ≡ lengthsFit n (oldTables full state policy prio cpu slice mask rows counts flags log) ⌝ }
+    ensures { λ b. ⌜ ((online : ℕ) → b ≡ lengthsFit n (lent full (old state) (old policy) (old prio) (old cpu) (old slice) (old mask)
+        (old rows) (old counts) (old flags) online (old log))) ⌝ }
 {
     sizes_fit(
         n,

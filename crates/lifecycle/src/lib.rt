@@ -18,7 +18,7 @@ use rules::answer;
 use rules::task;
 use runqueue::row::PLACES;
 
-// Kind 1: a new task, asleep on the lowest-numbered allowed CPU, with a full slice.
+// Kind 1: a new task, asleep on the lowest-numbered CPU of its mask, online or not, with a full slice.
 pub fn add(n: usize, full: u16, named: Task, who: u32, a: u32, b: u32, k: u64) -> Decision
     requires { ⌜ n ≤ cpuPlaces ⌝ }
     ensures { λ r. ⌜ ((m : Machine) (kind : ℕ) → n ≡ m .n → full ≡ m .full → Named m who named
@@ -75,11 +75,12 @@ pub fn remove(named: Task, who: u32) -> Decision
     Decision::Place(Plan::rewrite(who as u16, none))
 }
 
-// Kind 3: a sleeper becomes runnable, and enters the row of its CPU or, if that is not allowed, of the
-// lowest-numbered allowed one. Its slice is kept.
-pub fn wake(named: Task, who: u32) -> Decision
+// Kind 3: a sleeper becomes runnable, and enters the row of its CPU or, if that is not allowed or is offline, of the
+// lowest-numbered online one that is. Its slice is kept.
+pub fn wake(online: u64, named: Task, who: u32) -> Decision
     requires { ⌜ ((m : Machine) × Named m who named) ⌝ }
-    ensures { λ r. ⌜ ((m : Machine) (kind a b k : ℕ) → Named m who named → DecidedAs wakeKind m (event kind who a b k) r) ⌝ }
+    ensures { λ r. ⌜ ((m : Machine) (kind a b k : ℕ) → online ≡ m .online → Named m who named
+        → DecidedAs wakeKind m (event kind who a b k) r) ⌝ }
 {
     if PLACES <= who as usize {
         return Decision::Refused(answer::BAD_NUMBER);
@@ -87,7 +88,11 @@ pub fn wake(named: Task, who: u32) -> Decision
     if named.state != task::ASLEEP {
         return Decision::Refused(answer::WRONG_STATE); // free, or awake already
     }
-    let target = wake_cpu(named.cpu as usize, named.mask);
+    let up = named.mask & online;
+    if up == 0 {
+        return Decision::Refused(answer::NOWHERE);
+    }
+    let target = wake_cpu(named.cpu as usize, up);
     let becomes = Task {
         state: task::RUNNABLE,
         policy: named.policy,
@@ -120,13 +125,13 @@ pub fn sleep(named: Task, who: u32) -> Decision
     Decision::Place(Plan::leave(who as u16, named.cpu as usize, becomes))
 }
 
-// Where a task wakes: on its CPU if that is allowed, else on the lowest-numbered allowed one.
-fn wake_cpu(cpu: usize, mask: u64) -> usize
+// Where a task wakes that may use the CPUs `up`: on its own if that is one of them, else on the lowest-numbered.
+fn wake_cpu(cpu: usize, up: u64) -> usize
     requires { ⌜ cpu < cpuPlaces ⌝ }
-    ensures { λ r. ⌜ r ≡ cond (bit mask cpu) cpu (lowestBit cpuPlaces mask) ⌝ }
+    ensures { λ r. ⌜ r ≡ cond (bit up cpu) cpu (lowestBit cpuPlaces up) ⌝ }
 {
-    if bits::test_bit(mask, cpu) {
+    if bits::test_bit(up, cpu) {
         return cpu;
     }
-    bits::lowest_bit(mask) as usize
+    bits::lowest_bit(up) as usize
 }

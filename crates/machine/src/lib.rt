@@ -17,7 +17,7 @@ pub struct Outcome {
 }
 
 // One event on any tables, with a full slice of so many ticks. Refused with the first number that applies: 1 (N, the
-// full slice or a table's length), 2 (the tables or the record are not well-formed), 3 to 9 (the event).
+// full slice or a table's length), 2 (the tables or the record are not well-formed), 3 to 12 (the event).
 pub fn event(
     n: usize,
     full: u32,
@@ -30,6 +30,7 @@ pub fn event(
     rows: &mut [u16],
     counts: &mut [u16],
     flags: &mut [u8],
+    online: &mut u64,
     log: &mut [u16],
     kind: u32,
     who: u32,
@@ -38,8 +39,8 @@ pub fn event(
     k: u64,
     record: Record,
 ) -> Outcome
-    ensures { λ o. let s = oldTables full state policy prio cpu slice mask rows counts flags log in
-        let t = newTables full state policy prio cpu slice mask rows counts flags log in
+    ensures { λ o. let s = oldTables full state policy prio cpu slice mask rows counts flags online log in
+        let t = newTables full state policy prio cpu slice mask rows counts flags online log in
         let e = numbers kind who a b k in
         ⌜ result (o .answer) (o .moves) (o .«record») t ≡ handled n «record» s e ⌝
         ∗ ⌜ (o .answer ≡ 0 → LentDemand3 n (o .moves) (effect e (machineOf n s)) t) ⌝
@@ -57,6 +58,7 @@ pub fn event(
         rows,
         counts,
         flags,
+        online,
         log,
         record,
     );
@@ -83,6 +85,7 @@ pub fn event(
         rows,
         counts,
         flags,
+        online,
         log,
         &mut masks,
         &mut tallies,

@@ -10,7 +10,7 @@ use lib.ListN.{length, length-append}
 use Rattle.rules.specs.Machine.{Machine}
 use Rattle.rules.specs.Migration.{Move, Settled, onward, next, migrate, settle, settleAll}
 use Rattle.rules.specs.WellFormed.{WellFormed}
-use Rattle.laws.proofs.Runs.{Run, out, step, run-well-formed, run-few}
+use Rattle.laws.proofs.Runs.{Run, out, step, run-well-formed, run-few, online-most}
 
 -- from m the steps l have been taken, and lead to e
 pub data Taken (m : Machine) : List Move → Machine → Type 0 where
@@ -38,7 +38,7 @@ module _ {m : Machine} {l : List Move} {e : Machine} (w : WellFormed m) (t : Tak
 
   -- there are fewer than N
   pub taken-few : length l < m .n
-  taken-few = omega (arith, run-few w ended, ap length (append-nil l))
+  taken-few = omega (arith, run-few w ended, online-most m, ap length (append-nil l))
 
 pub taken-n : {m : Machine} {l : List Move} {e : Machine} → Taken m l e → e .n ≡ m .n
 taken-n begin = refl

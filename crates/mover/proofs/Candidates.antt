@@ -17,7 +17,8 @@ use Rattle.cpupri.specs.Level.{levelOf}
 use Rattle.cpupri.specs.Found.{lowestLevel}
 use Rattle.cpupri.specs.Record.{recordOf, masksOf}
 use Rattle.rules.specs.Lists.{In, Falling, place, occ}
-use Rattle.rules.specs.Machine.{Machine, taskOf, prioOf, row, levels, allowed, runnable, taskPlaces}
+use Rattle.bits.specs.Bit.{bit}
+use Rattle.rules.specs.Machine.{Machine, taskOf, prioOf, row, levels, runnable, taskPlaces}
 use Rattle.rules.specs.Migration.{movable}
 use Rattle.rules.specs.Tables.{nothing}
 use Rattle.rules.specs.WellFormed.{WellFormed, Fit}
@@ -210,8 +211,8 @@ module _ {m : Machine} {ps ms ks flat masks : List ℕ} (k : Looking m ps ms ks 
 
           go : (b : Bool) → eqb new nothing ≡ b → cond b (l - levelOf 0) 0 < prioOf m u
           go true e =
-              let reach : l < levelOf (prioOf m u) = ltb-true l (levelOf (prioOf m u)) (and-right (allowed m u d) (ltb l (levelOf (prioOf m u)))
-              (other new (allowed m u d && ltb l (levelOf (prioOf m u))) (eqb-true new nothing e) t)) in
+              let reach : l < levelOf (prioOf m u) = ltb-true l (levelOf (prioOf m u)) (and-right (bit (taskOf m u .mask) d) (ltb l (levelOf (prioOf m u)))
+              (other new (bit (taskOf m u .mask) d && ltb l (levelOf (prioOf m u))) (eqb-true new nothing e) t)) in
               omega (arith, fit .prio-low)
           go false e = fit .prio-low
 

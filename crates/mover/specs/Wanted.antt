@@ -10,7 +10,7 @@ use Rattle.bits.specs.Bit.{bit}
 use Rattle.cpupri.specs.Level.{levelOf}
 use Rattle.cpupri.specs.Found.{lowestLevel}
 use Rattle.rules.specs.Lists.{Falling}
-use Rattle.rules.specs.Machine.{Machine, prioOf, allowed, taskPlaces, highestPriority, cpuPlaces}
+use Rattle.rules.specs.Machine.{Machine, taskOf, prioOf, taskPlaces, highestPriority, cpuPlaces}
 use Rattle.rules.specs.Migration.{movable}
 use Rattle.rules.specs.Tables.{nothing}
 use Rattle.mover.specs.declared.scan.Test.{Test}
@@ -23,10 +23,10 @@ abbrev pub Asked : Test → Type 0
 Asked Movable = Unit {0}
 Asked (Drawn c l new) = c < cpuPlaces
 
--- in the rules' words
+-- in the rules' words; a CPU at a level is online
 abbrev pub meant : Machine → Test → ℕ → Bool
 meant m Movable u = movable m u
-meant m (Drawn c l new) u = eqb u new || (allowed m u c && ltb l (levelOf (prioOf m u)))
+meant m (Drawn c l new) u = eqb u new || (bit (taskOf m u .mask) c && ltb l (levelOf (prioOf m u)))
 
 -- of a task with this priority and mask, by the record's masks: some CPU that it may use is below its level, as the finder sees it
 unfoldable pub passing : Test → List ℕ → ℕ → ℕ → ℕ → Bool

@@ -1,5 +1,5 @@
 -- What leaving a row, entering one, following and setting a flag need of the lent tables. Lists are named after the columns: qs priorities, flat rows,
--- ns counts, fs flags; r is the CPU-priority record.
+-- ns counts, fs flags; `on` is the online mask and r the CPU-priority record.
 -- Assumes nothing.
 use mathlib.Core.Path.{_≡_}
 use mathlib.Core.Bool.{Bool}
@@ -30,12 +30,13 @@ pub record FollowingIf (b : Bool) (m : Machine) (qs fs ns flat : List ℕ) (c : 
   pub may : When b (Following m qs fs ns flat c)
 
 -- CPU c is to have ordinary work (b is 1) or none
-pub record Flagging (m : Machine) (qs flat ns fs : List ℕ) (r : Record) (c b : ℕ) : Type 0 where
+pub record Flagging (m : Machine) (qs flat ns fs : List ℕ) (on : ℕ) (r : Record) (c b : ℕ) : Type 0 where
   pub formed : WellFormed m
   pub prio : qs ≡ m .prio
   pub rows : flat ≡ flatOf (m .rows)
   pub counts : ns ≡ rowCounts (m .rows)
   pub flags : fs ≡ m .flags
+  pub online : on ≡ m .online
   pub levels : r ≡ recordOf (levels m)
   pub cpu : c < m .n
   pub work : b ≤ 1

@@ -83,12 +83,13 @@ pub fn follow_if(
     );
 }
 
-// A CPU's flag is set, and its level follows.
+// A CPU's flag is set, and its level follows if it is online.
 pub fn set_flag(
     prio: &[u8],
     rows: &[u16],
     counts: &[u16],
     flags: &mut [u8],
+    online: u64,
     masks: &mut [u64; LEVELS],
     tallies: &mut [u8; LEVELS],
     words: &mut [u64; WORDS],
@@ -97,15 +98,16 @@ pub fn set_flag(
     work: u8,
 )
     requires { let r = nowRecord masks tallies words levels in
-        ⌜ ((m : Machine) × Flagging m (now prio) (now rows) (now counts) (now flags) r cpu work) ⌝ }
+        ⌜ ((m : Machine) × Flagging m (now prio) (now rows) (now counts) (now flags) online r cpu work) ⌝ }
     ensures { λ u. let r = oldRecord masks tallies words levels in
         let q = newRecord masks tallies words levels in
         ⌜ new flags ≡ set (old flags) cpu work ⌝
-        ∗ ⌜ ((m : Machine) → Flagging m (old prio) (old rows) (old counts) (old flags) r cpu work
+        ∗ ⌜ ((m : Machine) → Flagging m (old prio) (old rows) (old counts) (old flags) online r cpu work
         → q ≡ recordOf (levelsOf (withFlag cpu work m))) ⌝ }
 {
     flags[cpu] = work;
-    placement::follow(
+    follow_if(
+        bits::test_bit(online, cpu),
         rows,
         counts,
         prio,

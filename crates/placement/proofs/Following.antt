@@ -13,15 +13,16 @@ use borrow.Author.Tests.{ltb-true, ltb-false}
 use Rattle.cpupri.specs.Level.{known}
 use Rattle.cpupri.specs.Record.{recordOf, Whole}
 use Rattle.levels.specs.declared.record.Record.{Record}
-use Rattle.levels.proofs.Whole.{level-known, whole-set}
+use Rattle.levels.proofs.Whole.{whole-set}
 use Rattle.rules.specs.Lists.{In}
-use Rattle.rules.specs.Machine.{Machine, prioOf, row, flag, level, levels, rowLevel, taskPlaces, cpuPlaces, highestPriority}
+use Rattle.rules.specs.Machine.{Machine, prioOf, row, flag, idleLevel, level, levels, rowLevel, taskPlaces, cpuPlaces, highestPriority}
 use Rattle.rules.specs.Plan.{When}
 use Rattle.laws.proofs.Lists.{same?}
+use Rattle.laws.proofs.Online.{idle-online}
 use Rattle.laws.proofs.Record.{length-levels, levels-below, levels-above}
 use Rattle.runqueue.specs.Table.{rowAt}
 use Rattle.placement.specs.Held.{InOrder, Following, followed}
-use Rattle.placement.proofs.Levels.{row-level-known}
+use Rattle.placement.proofs.Levels.{row-level-known, idle-known}
 use Rattle.placement.proofs.Order.{read-row, above}
 
 module _ (m : Machine) where
@@ -85,7 +86,7 @@ levels-followed m m′ a b c d small same hc hd other =
 -- ---- the level that the code works out
 
 level-fits : (m : Machine) → InOrder m → (c : ℕ) → c < m .n → known (level m c) ≡ true
-level-fits m o c h = level-known (level m c) (row-level-known (prioOf m) (flag m c) (row m c) (o .flags c h) (o .high c))
+level-fits m o c h = row-level-known (prioOf m) (idleLevel m c) (row m c) (idle-known m c (o .flags c h)) (o .high c)
 
 module _ {m : Machine} {ps fs ks flat : List ℕ} {c : ℕ} (l : Following m ps fs ks flat c) where
   -- what stands in the row has a place and a priority
@@ -102,6 +103,7 @@ module _ {m : Machine} {ps fs ks flat : List ℕ} {c : ℕ} (l : Following m ps 
       e ∙ ap (λ (qs : List ℕ). rowLevel (λ (u : ℕ). getD qs u 0) (getD fs c 0) (rowAt ks flat c)) (l .prio)
       ∙ ap (λ (gs : List ℕ). rowLevel (prioOf m) (getD gs c 0) (rowAt ks flat c)) (l .flags)
       ∙ ap (rowLevel (prioOf m) (flag m c)) (read-row m (m .prio) ks flat _ (l .queues) c)
+      ∙ ap (λ (f : ℕ). rowLevel (prioOf m) f (row m c)) (sym (idle-online m c (l .online)))
 
   pub level-ok : {v : ℕ} → v ≡ level m c → known v ≡ true
   level-ok e = subst (λ (x : ℕ). known x ≡ true) (sym e) (level-fits m (l .queues .order) c (l .cpu))

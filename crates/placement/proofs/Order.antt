@@ -12,7 +12,7 @@ use lib.ListN.{length, getD, set, length-set, length-map}
 use Rattle.cpupri.specs.Record.{recordOf, Whole}
 use Rattle.levels.specs.declared.record.Record.{Record}
 use Rattle.rules.specs.Lists.{In, Falling, delete}
-use Rattle.rules.specs.Machine.{Machine, taskOf, prioOf, row, flag, levels, rowLevel, levelOf, queued, entryKey, withRow, taskPlaces, highestPriority}
+use Rattle.rules.specs.Machine.{Machine, taskOf, prioOf, row, idleLevel, levels, rowLevel, levelOf, queued, entryKey, withRow, taskPlaces, highestPriority}
 use Rattle.rules.specs.Tables.{rowsOf, flatOf, rowCounts}
 use Rattle.rules.specs.WellFormed.{WellFormed, Fit}
 use Rattle.laws.proofs.Apart.{Apart, in-row, in-other, in-place, room, queued-joins, standing-means, runnable-fit, runnable-place, fit-of}
@@ -23,7 +23,7 @@ use Rattle.laws.proofs.Tables.{read-written}
 use Rattle.runqueue.specs.Table.{HoldsRows, rowAt, rowsWith}
 use Rattle.runqueue.proofs.Flat.{holds-written, first-place}
 use Rattle.placement.specs.Held.{InOrder, Held}
-use Rattle.placement.proofs.Levels.{row-level-known, whole-levels, levels-row}
+use Rattle.placement.proofs.Levels.{row-level-known, idle-known, whole-levels, levels-row}
 
 pub well-formed-order : (m : Machine) → WellFormed m → InOrder m
 well-formed-order m w =
@@ -75,7 +75,7 @@ module _ (m : Machine) (ps ks flat : List ℕ) (r : Record) (held : Held m ps ks
   pub whole : Whole r
   whole =
       subst Whole (sym (held .levels))
-      (whole-levels m (held .order .cpus) (λ c h. row-level-known (prioOf m) (flag m c) (row m c) (held .order .flags c h) (held .order .high c)))
+      (whole-levels m (held .order .cpus) (λ c h. row-level-known (prioOf m) (idleLevel m c) (row m c) (idle-known m c (held .order .flags c h)) (held .order .high c)))
 
   pub cpus-counted : length ks ≡ m .n
   cpus-counted = ap length (held .counts) ∙ length-map (m .rows) (λ (q : List ℕ). length q) ∙ held .order .rows
@@ -121,7 +121,7 @@ held-row m ps ks flat r c q held hc fine ks′ flat′ ek ef =
 
 -- the record with that row's level is the machine's
 pub levels-set : (m : Machine) (ps ks flat : List ℕ) (r : Record) (c : ℕ) (q : List ℕ) → Held m ps ks flat r → c < m .n
-    → (v : ℕ) → v ≡ rowLevel (prioOf m) (flag m c) q → set (r .levels) c v ≡ levels (withRow c q m)
+    → (v : ℕ) → v ≡ rowLevel (prioOf m) (idleLevel m c) q → set (r .levels) c v ≡ levels (withRow c q m)
 unfolding recordOf
 levels-set m ps ks flat r c q held hc v e =
     ap (λ (x : Record). set (x .levels) c v) (held .levels) ∙ ap (set (levels m) c) e

@@ -1,14 +1,14 @@
 -- What the lent tables hold of a machine, as far as its run queues and levels go.
 -- Assumes nothing.
 use mathlib.Core.Path.{_≡_}
-use mathlib.Core.Bool.{Bool, cond}
+use mathlib.Core.Bool.{Bool, true, cond}
 use mathlib.Core.List.{List}
 use Prim.Native.Nat.{ℕ, _≤_, _<_}
 use lib.ListN.{length, set}
 use Rattle.cpupri.specs.Record.{recordOf}
 use Rattle.levels.specs.declared.record.Record.{Record}
 use Rattle.rules.specs.Lists.{In, Falling}
-use Rattle.rules.specs.Machine.{Machine, prioOf, row, flag, level, levels, taskPlaces, cpuPlaces, highestPriority}
+use Rattle.rules.specs.Machine.{Machine, prioOf, row, flag, isOnline, level, levels, taskPlaces, cpuPlaces, highestPriority}
 use Rattle.rules.specs.Tables.{flatOf, rowCounts}
 
 -- a machine whose run queues are in order: what holds of a well-formed one, and of one from whose rows a task has been taken
@@ -42,13 +42,14 @@ pub record Entering (m : Machine) (ps ks flat : List ℕ) (r : Record) (t c : �
 abbrev pub Queues : Machine → List ℕ → List ℕ → Type 0
 Queues m ks flat = Held m (m .prio) ks flat (recordOf (levels m))
 
--- the level of CPU c can be read off the lists; fs holds the flags
+-- the level of CPU c, which is online, can be read off the lists; fs holds the flags
 pub record Following (m : Machine) (ps fs ks flat : List ℕ) (c : ℕ) : Type 0 where
   pub queues : Queues m ks flat
   pub prio : ps ≡ m .prio
   pub flags : fs ≡ m .flags
   pub flag-count : length (m .flags) ≡ m .n
   pub cpu : c < m .n
+  pub online : isOnline m c ≡ true
 
 -- the levels xs with that of CPU c as it is in m, if it is to follow
 abbrev pub followed : Bool → ℕ → Machine → List ℕ → List ℕ

@@ -1,6 +1,6 @@
 -- The plan of each kind is its own effect, and can be carried out.
 -- Assumes nothing.
-use mathlib.Core.Path.{_≡_, refl, sym, ap, _∙_, subst}
+use mathlib.Core.Path.{_≡_, refl, sym, ap, ap₂, _∙_, subst}
 use mathlib.Core.Bool.{Bool, true, false, cond}
 use mathlib.Core.Logic.{_≢_, inl, inr}
 use mathlib.Core.List.{List, [], _∷_}
@@ -8,15 +8,16 @@ use Prim.Native.Nat.{ℕ, _-_, _≤_, _<_, _^_}
 use native.Mathlib.Omega.{arith}
 use lib.Dec.{eqb, leb, ltb}
 use borrow.Author.Tests.{eq-eqb, ne-eqb, le-leb, lt-leb}
-use Rattle.bits.specs.Bit.{bit, first, lowest}
-use Rattle.bits.proofs.Search.{lowest-is, first-before}
+use Rattle.bits.specs.Bit.{bit, lowest}
+use lib.Bits.{bitAnd}
 use Rattle.rules.specs.Lists.{In}
-use Rattle.rules.specs.Machine.{Machine, Task, taskOf, row, enqueueAt, enqueue, dequeue, requeue, lowestAllowed, free, asleep, runnable, rr, cpuPlaces, taskPlaces, highestPriority}
+use Rattle.rules.specs.Machine.{Machine, Task, taskOf, row, isOnline, enqueueAt, enqueue, dequeue, requeue, allows, lowestAllowed, stranded, free, asleep, runnable, rr, cpuPlaces, taskPlaces, highestPriority}
 use Rattle.rules.specs.WellFormed.{WellFormed, Fit}
 use Rattle.rules.specs.Events.{wakeCpu, woken, slept, reprioritised, reaffined, tickedTask, ticked, yielded, toFirst}
 use Rattle.laws.proofs.Lists.{in-here}
 use Rattle.laws.proofs.Apart.{fit-of, runnable-fit, runnable-place, row-in, in-row}
-use Rattle.laws.proofs.Effects.{lowest-good}
+use Rattle.laws.proofs.Effects.{wake-good}
+use Rattle.laws.proofs.Online.{lowest-up, lowest-allowed, allows-bit, allows-online, home-online}
 use Rattle.rules.specs.Plan.{Plan, carried, rewrite, enter, leave, shift, reorder, withState, withPrio, withSlice, withMask, Doable, Carries}
 use Rattle.plans.specs.Decided.{Named, Runs, firstOf}
 use Rattle.plans.specs.declared.plan.Task.{Task as Columns}
@@ -24,12 +25,6 @@ use Rattle.plans.proofs.Planned.{write-self, write-state, write-prio, w
 
 pub replaced : {done m : Machine} {p q : Plan} → q ≡ p → Carries done m p → Carries done m q
 replaced {done} {m} e h = subst (Carries done m) (sym e) h
-
--- the lowest bit of a 64-bit mask is the lowest-numbered allowed CPU
-pub lowest-allowed : (m : Machine) (k : ℕ) → m .n ≤ cpuPlaces → 0 < k → k < 2 ^ m .n → lowest cpuPlaces k ≡ lowestAllowed m k
-lowest-allowed m k small some fits =
-    let good : (first (bit k) (m .n) < m .n) × (bit k (first (bit k) (m .n)) ≡ true) = lowest-good k (m .n) some fits in
-    lowest-is 64 k (first (bit k) (m .n)) (omega arith) (good .1) (first-before (bit k) (m .n))
 
 -- ---- the task that is named
 
@@ -57,43 +52,41 @@ module _ {m : Machine} {t : ℕ} {τ : Columns} (l : Named m t τ) where
     kept σ e = record { task = ht; leaves = tt; stays = inr (e, refl); enters = tt }
 
     -- out of its row and into row d, in front of its equals or behind them
-    moved : (b : Bool) (σ : Task) (d : ℕ) → taskOf m t .state ≡ runnable → d < m .n → σ .prio ≤ highestPriority
+    moved : (b : Bool) (σ : Task) (d : ℕ) → taskOf m t .state ≡ runnable → d < m .n → isOnline m d ≡ true → σ .prio ≤ highestPriority
         → Doable m (record { task = t; leaves = true; origin = taskOf m t .cpu; becomes = σ; enters = true; front = b; target = d })
-    moved b σ d s hd hp =
+    moved b σ d s hd on hp =
         record {
           task = ht;
           leaves = (runnable-fit m t (l .formed) s .cpu, row-in m t (l .formed) s);
           stays = tt;
-          enters = (hd, hp);
+          enters = (hd, on, hp);
         }
 
-    pub shifted : (σ : Task) (d : ℕ) → taskOf m t .state ≡ runnable → d < m .n → σ .prio ≤ highestPriority → Doable m (shift t (taskOf m t .cpu) σ d)
+    pub shifted : (σ : Task) (d : ℕ) → taskOf m t .state ≡ runnable → d < m .n → isOnline m d ≡ true → σ .prio ≤ highestPriority
+        → Doable m (shift t (taskOf m t .cpu) σ d)
     shifted = moved false
 
     pub reordered : (b : Bool) (σ : Task) → taskOf m t .state ≡ runnable → σ .prio ≤ highestPriority → Doable m (reorder b t (taskOf m t .cpu) σ)
-    reordered b σ s hp = moved b σ (taskOf m t .cpu) s (runnable-fit m t (l .formed) s .cpu) hp
+    reordered b σ s hp = moved b σ (taskOf m t .cpu) s (runnable-fit m t (l .formed) s .cpu) (home-online m t (l .formed) s) hp
 
     -- kinds 1 and 2
     pub rewritten : (σ : Task) → taskOf m t .state ≢ runnable → Carries (carried (rewrite t σ) m) m (rewrite t σ)
     rewritten σ n = record { effect = refl; doable = idle σ n }
 
     -- kind 3
-    module _ (s : τ .state ≡ asleep) where
+    module _ (s : τ .state ≡ asleep) (up : stranded m (taskOf m t .mask) ≡ false) where
       asleep-fit : Fit (m .n) (m .full) (taskOf m t)
       asleep-fit = used-fit (λ z. omega arith)
 
-      pub wake-small : wakeCpu m t < m .n
-      wake-small = go (bit (taskOf m t .mask) (taskOf m t .cpu))
-        where
-          go : (b : Bool) → cond b (taskOf m t .cpu) (lowestAllowed m (taskOf m t .mask)) < m .n
-          go true = asleep-fit .cpu
-          go false = lowest-good (taskOf m t .mask) (m .n) (asleep-fit .mask-some) (asleep-fit .mask-fits) .0
+      good : (wakeCpu m t < m .n) × (allows m (taskOf m t .mask) (wakeCpu m t) ≡ true)
+      good = wake-good t m (l .formed) ht asleep-fit up
 
-      pub wake-is : cond (bit (τ .mask) (τ .cpu)) (τ .cpu) (lowest cpuPlaces (τ .mask)) ≡ wakeCpu m t
-      wake-is =
-          ap (λ (x : Task). cond (bit (x .mask) (x .cpu)) (x .cpu) (lowest cpuPlaces (x .mask))) (l .columns)
-          ∙ ap (cond (bit (taskOf m t .mask) (taskOf m t .cpu)) (taskOf m t .cpu))
-          (lowest-allowed m (taskOf m t .mask) (l .formed .shape .cpus) (asleep-fit .mask-some) (asleep-fit .mask-fits))
+      pub wake-is : {on : ℕ} → on ≡ m .online
+          → cond (bit (bitAnd (τ .mask) on) (τ .cpu)) (τ .cpu) (lowest cpuPlaces (bitAnd (τ .mask) on)) ≡ wakeCpu m t
+      wake-is e =
+          ap₂ (λ (x : Task) (on : ℕ). cond (bit (bitAnd (x .mask) on) (x .cpu)) (x .cpu) (lowest cpuPlaces (bitAnd (x .mask) on))) (l .columns) e
+          ∙ ap₂ (λ (b : Bool) (d : ℕ). cond b (taskOf m t .cpu) d) (allows-bit m (taskOf m t .mask) (taskOf m t .cpu))
+          (lowest-allowed m (taskOf m t .mask) (l .formed .shape .cpus) (asleep-fit .mask-fits) up)
 
       pub wakes : Carries (woken t m) m (enter t (withState runnable (taskOf m t)) (wakeCpu m t))
       wakes =
@@ -103,7 +96,7 @@ module _ {m : Machine} {t : ℕ} {τ : Columns} (l : Named m t τ) where
               task = ht;
               leaves = tt;
               stays = inl (λ z. let a : taskOf m t .state ≡ asleep = state-is s in omega arith);
-              enters = (wake-small, asleep-fit .prio-high);
+              enters = (good .0, allows-online m (taskOf m t .mask) (wakeCpu m t) (good .1), asleep-fit .prio-high);
             };
           }
 
@@ -151,18 +144,21 @@ module _ {m : Machine} {t : ℕ} {τ : Columns} (l : Named m t τ) where
             doable = idle (withMask k (taskOf m t)) (state-other n);
           }
 
-      pub affinity-same : τ .state ≡ runnable → bit k (τ .cpu) ≡ true → Carries (reaffined t k m) m (rewrite t (withMask k (taskOf m t)))
+      pub affinity-same : τ .state ≡ runnable → allows m k (τ .cpu) ≡ true → Carries (reaffined t k m) m (rewrite t (withMask k (taskOf m t)))
       affinity-same s e =
           record {
-            effect = rw (is-in runnable s, ap (λ (x : Task). bit k (x .cpu)) (sym (l .columns)) ∙ e) (sym (write-mask t k m));
+            effect = rw (is-in runnable s, ap (λ (x : Task). allows m k (x .cpu)) (sym (l .columns)) ∙ e) (sym (write-mask t k m));
             doable = kept (withMask k (taskOf m t)) refl;
           }
 
-      pub affinity-moved : τ .state ≡ runnable → bit k (τ .cpu) ≡ false → 0 < k → k < 2 ^ m .n → Carries (reaffined t k m) m (shift t (taskOf m t .cpu) (withMask k (taskOf m t)) (lowestAllowed m k))
-      affinity-moved s e some fits =
+      pub affinity-moved : τ .state ≡ runnable → allows m k (τ .cpu) ≡ false → k < 2 ^ m .n → stranded m k ≡ false
+          → Carries (reaffined t k m) m (shift t (taskOf m t .cpu) (withMask k (taskOf m t)) (lowestAllowed m k))
+      affinity-moved s e fits up =
+          let good = lowest-up m k fits up in
           record {
-            effect = rw (is-in runnable s, ap (λ (x : Task). bit k (x .cpu)) (sym (l .columns)) ∙ e) (ap (enqueue t (lowestAllowed m k)) (sym (write-mask t k (dequeue t (taskOf m t .cpu) m))));
-            doable = shifted (withMask k (taskOf m t)) (lowestAllowed m k) (state-is s) (lowest-good k (m .n) some fits .0) (runnable-fit m t (l .formed) (state-is s) .prio-high);
+            effect = rw (is-in runnable s, ap (λ (x : Task). allows m k (x .cpu)) (sym (l .columns)) ∙ e) (ap (enqueue t (lowestAllowed m k)) (sym (write-mask t k (dequeue t (taskOf m t .cpu) m))));
+            doable = shifted (withMask k (taskOf m t)) (lowestAllowed m k) (state-is s) (good .0) (allows-online m k (lowestAllowed m k) (good .1))
+                (runnable-fit m t (l .formed) (state-is s) .prio-high);
           }
 
 -- ---- the first of a row
@@ -203,7 +199,7 @@ module _ {m : Machine} {c t : ℕ} {τ : Columns} (l : Runs m c t τ) where
     behind : (σ : Task) → σ .prio ≡ taskOf m t .prio → Doable m (shift t c σ c)
     behind σ e =
         subst (λ (d : ℕ). Doable m (shift t d σ d)) (stands .1)
-        (shifted named some σ (taskOf m t .cpu) (stands .0) (runnable-fit m t (l .formed) (stands .0) .cpu)
+        (shifted named some σ (taskOf m t .cpu) (stands .0) (runnable-fit m t (l .formed) (stands .0) .cpu) (home-online m t (l .formed) (stands .0))
         (subst (λ (x : ℕ). x ≤ highestPriority) (sym e) (runnable-fit m t (l .formed) (stands .0) .prio-high)))
 
     ticked-is : ticked c m ≡ tickedTask t c m

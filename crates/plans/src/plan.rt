@@ -34,6 +34,9 @@ pub enum Decision {
     Place(Plan),
     // the CPU has ordinary work (1) or none (0)
     Flag { cpu: usize, work: u8 },
+    // the CPU goes offline, or is online again
+    Offline { cpu: usize },
+    Online { cpu: usize },
 }
 
 impl Plan {

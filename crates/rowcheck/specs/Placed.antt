@@ -56,10 +56,10 @@ Marks marks row count marks′ = (length marks′ ≡ setWords) × ((u : ℕ) �
 abbrev pub Unused : List ℕ → ℕ → Type 0
 Unused row count = (i : ℕ) → count ≤ i → i < taskPlaces → getD row i 0 ≡ nothing
 
--- the row of CPU c in its places, with the CPU's flag and level
-pub record Row (state prio cpu row : List ℕ) (c count flag level : ℕ) : Type 0 where
+-- the row of CPU c in its places, with the CPU's flag, its level, and the level `idle` that it has without a task
+pub record Row (state prio cpu row : List ℕ) (c count flag idle level : ℕ) : Type 0 where
   pub most : count ≤ taskPlaces
   pub tasks : AllStand state prio cpu row c count
   pub rest : Unused row count
   pub small : flag ≤ 1
-  pub right : level ≡ rowLevel (λ u. getD prio u 0) flag (take count row)
+  pub right : level ≡ rowLevel (λ u. getD prio u 0) idle (take count row)

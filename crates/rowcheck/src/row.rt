@@ -19,12 +19,13 @@ const TOP: u8 = 255;
 // A real-time task's level is its priority and this.
 const REAL_TIME: u16 = 2;
 
-// One row: `count` tasks, then unused places. Its tasks join the set.
+// One row: `count` tasks, then unused places. Its tasks join the set. `idle` is the level that the CPU has without a task.
 pub fn row_fits(
     c: usize,
     row: &[u16],
     count: u16,
     flag: u8,
+    idle: u8,
     level: u8,
     state: &[u8],
     prio: &[u8],
@@ -33,7 +34,7 @@ pub fn row_fits(
 ) -> bool
     requires { ⌜ (length (now state) ≡ taskPlaces) × (length (now prio) ≡ taskPlaces) × (length (now cpu) ≡ taskPlaces) ⌝ }
     requires { ⌜ (length (now row) ≡ taskPlaces) × (length (now marks) ≡ setWords) ⌝ }
-    ensures { λ b. ⌜ Says b (Row (old state) (old prio) (old cpu) (old row) c count flag level × Once (old marks) (old row) count) ⌝ }
+    ensures { λ b. ⌜ Says b (Row (old state) (old prio) (old cpu) (old row) c count flag idle level × Once (old marks) (old row) count) ⌝ }
     ensures { λ b. ⌜ (b ≡ true → Marks (old marks) (old row) count (new marks)) ⌝ }
 {
     let k = count as usize;
@@ -43,7 +44,7 @@ pub fn row_fits(
     if !tasks_stand(c, row, k, state, prio, cpu, marks) {
         return false;
     }
-    unused(row, k) & (flag <= 1) & level_fits(row, k, flag, level, prio)
+    unused(row, k) & (flag <= 1) & level_fits(row, k, idle, level, prio)
 }
 
 // The tasks of a row: each may stand there, and none is in the set yet.
@@ -103,14 +104,14 @@ fn unused(row: &[u16], count: usize) -> bool
     all
 }
 
-// Whether a CPU's level is its first task's or, for an empty row, its flag.
-fn level_fits(row: &[u16], count: usize, flag: u8, level: u8, prio: &[u8]) -> bool
+// Whether a CPU's level is its first task's or, for an empty row, `idle`.
+fn level_fits(row: &[u16], count: usize, idle: u8, level: u8, prio: &[u8]) -> bool
     requires { ⌜ (length (now row) ≡ taskPlaces) × (length (now prio) ≡ taskPlaces) ⌝ }
     requires { ⌜ ((i : ℕ) → i < count → getD (now row) i 0 < taskPlaces) ⌝ }
-    ensures { λ b. ⌜ Says b (level ≡ rowLevel (λ u. getD (old prio) u 0) flag (take count (old row))) ⌝ }
+    ensures { λ b. ⌜ Says b (level ≡ rowLevel (λ u. getD (old prio) u 0) idle (take count (old row))) ⌝ }
 {
     if count == 0 {
-        return level == flag;
+        return level == idle;
     }
     let first = row[0] as usize;
     // in 16 bits, since a priority may be any byte here

@@ -1,12 +1,12 @@
 -- The cases hold of the rules: K1 to K12, the papers' sentences, and those over lent tables and of the finder, each one statement over a list, proved by computation.
 -- Assumes nothing.
 use mathlib.Core.Path.{_≡_, refl}
-use mathlib.Core.List.{List, [], _∷_, map}
+use mathlib.Core.List.{List, [], _∷_, _++_, map}
 use Prim.Native.Nat.{ℕ, zero, suc, _<_}
 use native.Mathlib.Nat.{not-suc-le-zero, le-of-suc-le-suc}
 use native.Mathlib.Omega.{arith}
-use lib.ListN.{getD}
-use Rattle.bits.specs.Bit.{bit, first, tally, packed}
+use lib.ListN.{length, getD}
+use Rattle.bits.specs.Bit.{bit, withBit, withoutBit, first, tally, packed}
 use Rattle.cpupri.specs.Consistent.{levelFits, fitFrom, levelsFit, same, agrees, consistent}
 use Rattle.cpupri.specs.Found.{firstFailing, sizeFits, maskFits, allowedAt, anyAt, lowestLevel, lowestFound, findChecks, found}
 use Rattle.cpupri.specs.Record.{table, maskAt, countAt, masksOf, countsOf, wordsOf, recordOf}
@@ -15,13 +15,15 @@ use Rattle.rules.specs.WellFormed.{gathered, falls}
 use Rattle.rules.specs.Migration.{Move, next, settle}
 use Rattle.rules.specs.Outcome.{outcome, logNumbers}
 use Rattle.rules.specs.Tables.{Tables, lent, rowsOf, padded, flatOf, storedRow, storedRows}
-use Rattle.rules.specs.Machine.{defaultSlice}
+use Rattle.rules.specs.Machine.{defaultSlice, fresh, withoutCpu}
 use Rattle.rules.specs.Entry.{checked, eventAnswer, made, handled, handedBack}
 use Rattle.rules.specs.Cases.{Case, cases, log5, used, seen, played}
 use Rattle.rules.specs.Sentences.{sentences}
-use Rattle.rules.specs.Demand3.{mostMoves, movers, origins, receivers, displacements}
+use Rattle.rules.specs.Hotplug.{hotplug}
+use Rattle.rules.specs.Events.{evacuated}
+use Rattle.rules.specs.Demand3.{mostMoves, onlineCpus, movers, origins, receivers, displacements}
 use Rattle.rules.specs.LentDemand3.{Entries, moverAt, originAt, receiverAt, displacedAt}
-use Rattle.rules.specs.LentCases.{LentCase, lentCases, returned, FinderCase, finderCases, asked}
+use Rattle.rules.specs.LentCases.{LentCase, lentCases, returned, FinderCase, finderCases, finderOffline, asked}
 
 pub all-cases : map seen cases ≡ map (λ (k : Case). k .expected) cases
 unfolding bit first tally from select joined any bestFrom best insertBefore delete firstFailing sizeFits maskFits gathered next settle outcome
@@ -33,20 +35,32 @@ unfolding bit first tally from select joined any bestFrom best insertBefore dele
     logNumbers used played
 all-sentences = refl
 
+-- document 02, L8
+pub all-hotplug : map seen hotplug ≡ map (λ (k : Case). k .expected) hotplug
+unfolding bit withBit withoutBit first tally from select joined any bestFrom best insertBefore delete firstFailing sizeFits maskFits gathered next
+    settle evacuated outcome logNumbers used played
+all-hotplug = refl
+
 pub all-lent : map returned lentCases ≡ map (λ (k : LentCase). k .expected) lentCases
-unfolding bit first tally packed levelFits fitFrom levelsFit same agrees consistent firstFailing sizeFits maskFits table maskAt countAt masksOf
-    countsOf wordsOf recordOf from select joined any each bestFrom best insertBefore delete gathered falls next settle outcome logNumbers
+unfolding bit withBit withoutBit first tally packed levelFits fitFrom levelsFit same agrees consistent firstFailing sizeFits maskFits table maskAt
+    countAt masksOf countsOf wordsOf recordOf from select joined any each bestFrom best insertBefore delete gathered falls next settle evacuated
+    outcome logNumbers
     rowsOf padded flatOf storedRow storedRows checked eventAnswer made handled
 all-lent = refl
 
-pub all-found : map asked finderCases ≡ map (λ (k : FinderCase). k .expected) finderCases
+pub all-found : map asked (finderCases ++ finderOffline) ≡ map (λ (k : FinderCase). k .expected) (finderCases ++ finderOffline)
 unfolding bit first tally packed levelFits fitFrom levelsFit same agrees consistent firstFailing sizeFits maskFits table maskAt countAt masksOf
-    countsOf wordsOf allowedAt anyAt lowestLevel lowestFound findChecks found
+    countsOf wordsOf recordOf allowedAt anyAt lowestLevel lowestFound findChecks found
 all-found = refl
 
 -- K5 takes 2 moves on 3 CPUs: the bound of demand 3 is reached
 pub bound-reached : mostMoves 3 ≡ 2
 bound-reached = refl
+
+-- L8: "online CPUs less one": one of three is offline
+pub bound-online : mostMoves (length (onlineCpus (withoutCpu 1 (fresh 3 100)))) ≡ 1
+unfolding bit withoutBit from select
+bound-online = refl
 
 -- L7: "handed back by it (25 by a second maker told none, 0 on a refusal)"
 pub all-handed : handedBack 0 1000 ∷ handedBack 0 defaultSlice ∷ handedBack 1 1000 ∷ handedBack 1 defaultSlice ∷ [] ≡ 1000 ∷ 25 ∷ 0 ∷ 0 ∷ []
@@ -59,7 +73,7 @@ moves5 = record { task = 0; origin = 0; target = 1; displaced = 22 } ∷ record 
 
 -- tables of which only the log counts
 abbrev logOnly : List ℕ → Tables
-logOnly log = lent 0 [] [] [] [] [] [] [] [] [] log
+logOnly log = lent 0 [] [] [] [] [] [] [] [] [] 0 log
 
 -- these are entries of the log
 pub entries-told : Entries (logOnly log5) moves5

@@ -1,14 +1,14 @@
 -- The marked examples K1 to K12: for each the events before, the last event, and all that is then seen. Tasks are FIFO unless said, and a full slice
 -- is 100 ticks, document 01's number, which its examples name.
 -- Assumes nothing.
-use mathlib.Core.Bool.{cond, _&&_}
+use mathlib.Core.Bool.{Bool, true, false, cond, _&&_}
 use mathlib.Core.List.{List, [], _∷_, _++_, map}
 use Prim.Native.Nat.{ℕ, suc, _+_, _-_, _^_}
 use lib.Dec.{eqb}
 use lib.ListN.{replicate}
 use Rattle.cpupri.specs.Found.{sizeFits}
 use Rattle.rules.specs.Lists.{below}
-use Rattle.rules.specs.Machine.{Machine, Task, row, flag, level, fresh, runnable, asleep, fifo, rr}
+use Rattle.rules.specs.Machine.{Machine, Task, row, flag, isOnline, level, fresh, runnable, asleep, fifo, rr}
 use Rattle.rules.specs.WellFormed.{sliceFits, tasks}
 use Rattle.rules.specs.Events.{Event, event}
 use Rattle.rules.specs.Refusals.{badSize}
@@ -46,10 +46,17 @@ yield c = event 8 c 0 0 0
 abbrev pub ordinary : ℕ → ℕ → Event
 ordinary c b = event 9 c 0 b 0
 
+abbrev pub offline : ℕ → Event
+offline c = event 10 c 0 0 0
+
+abbrev pub online : ℕ → Event
+online c = event 11 c 0 0 0
+
 -- ---- what is seen
 
--- a CPU: its level, its ordinary-work flag and its row
+-- a CPU: whether it is online, its level, its ordinary-work flag and its row
 pub record Cpu : Type 0 where
+  pub online : Bool
   pub level : ℕ
   pub flag : ℕ
   pub row : List ℕ
@@ -69,7 +76,7 @@ pub record Seen : Type 0 where
   pub tasks : List Used
 
 abbrev pub cpuOf : Machine → ℕ → Cpu
-cpuOf m c = record { level = level m c; flag = flag m c; row = row m c }
+cpuOf m c = record { online = isOnline m c; level = level m c; flag = flag m c; row = row m c }
 
 -- the places that hold something, counted from i
 unfoldable pub used : ℕ → List Task → List Used
@@ -92,17 +99,21 @@ look o =
 
 -- a CPU without ordinary work: its level and its row
 abbrev pub busy : ℕ → List ℕ → Cpu
-busy l r = record { level = l; flag = 0; row = r }
+busy l r = record { online = true; level = l; flag = 0; row = r }
 
 abbrev pub idleCpu : Cpu
 idleCpu = busy 0 []
 
 -- a CPU with ordinary work, and one with nothing else
 abbrev pub shared : ℕ → List ℕ → Cpu
-shared l r = record { level = l; flag = 1; row = r }
+shared l r = record { online = true; level = l; flag = 1; row = r }
 
 abbrev pub ordinaryCpu : Cpu
 ordinaryCpu = shared 1 []
+
+-- an offline CPU, and its flag
+abbrev pub offlineCpu : ℕ → Cpu
+offlineCpu f = record { online = false; level = 255; flag = f; row = [] }
 
 -- task t, and its columns: state, policy, priority, CPU, slice, mask
 abbrev pub task : ℕ → ℕ → ℕ → ℕ → ℕ → ℕ → ℕ → Used

@@ -54,7 +54,7 @@ pub record Good (n : ℕ) (r : Record) (s : Tables) : Type 0 where
 unfoldable pub checked : ℕ → Record → Tables → ℕ
 checked n r s = firstFailing (sizeCheck n s ∷ formCheck n r s ∷ [])
 
--- all checks of an event: 1, 2, then 3 to 9
+-- all checks of an event: 1, 2, then 3 to 12
 abbrev pub allChecks : ℕ → Record → Tables → Event → List Check
 allChecks n r s e = sizeCheck n s ∷ formCheck n r s ∷ eventChecks (machineOf n s) e
 

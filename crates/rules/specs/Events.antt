@@ -1,4 +1,4 @@
--- Events: nine kinds, and what each does by itself. Levels follow at once, since they are a function of the machine.
+-- Events: eleven kinds, and what each does by itself. Levels follow at once, since they are a function of the machine.
 -- Assumes nothing.
 use mathlib.Core.Bool.{cond}
 use mathlib.Core.List.{List, [], _∷_}
@@ -6,8 +6,9 @@ use mathlib.Core.Option.{Option, none, some}
 use Prim.Native.Nat.{ℕ, zero, suc, _-_}
 use lib.Dec.{eqb, ltb}
 use lib.ListN.{getElem?}
+use Rattle.bits.specs.Bit.{bit, first}
 use Rattle.rules.specs.Machine.{Machine, Task, Column, taskOf, freeTask, row, asleep, runnable, rr}
-use Rattle.rules.specs.Machine.{store, write, withFlag, enqueueAt, enqueue, dequeue, requeue, allows, lowestAllowed}
+use Rattle.rules.specs.Machine.{store, write, withFlag, enqueueAt, enqueue, dequeue, requeue, allows, lowestAllowed, withoutCpu, withCpu}
 
 -- five numbers; those that a kind does not use are ignored
 pub record Event : Type 0 where
@@ -21,11 +22,11 @@ abbrev pub event : ℕ → ℕ → ℕ → ℕ → ℕ → Event
 event kind who a b k = record { kind = kind; who = who; a = a; b = b; mask = k }
 
 pub data Kind : Type 0 where
-  add remove wake sleep set-priority set-affinity tick yield set-ordinary : Kind
+  add remove wake sleep set-priority set-affinity tick yield set-ordinary take-offline bring-online : Kind
 
 -- kinds by their numbers, from 1
 abbrev pub kinds : List Kind
-kinds = add ∷ remove ∷ wake ∷ sleep ∷ set-priority ∷ set-affinity ∷ tick ∷ yield ∷ set-ordinary ∷ []
+kinds = add ∷ remove ∷ wake ∷ sleep ∷ set-priority ∷ set-affinity ∷ tick ∷ yield ∷ set-ordinary ∷ take-offline ∷ bring-online ∷ []
 
 abbrev pub kindOf : ℕ → Option Kind
 kindOf zero = none
@@ -33,14 +34,14 @@ kindOf (suc i) = getElem? kinds i
 
 -- ---- the effect of each kind
 
--- asleep, on the lowest-numbered allowed CPU, with a full slice
+-- asleep, on the lowest-numbered CPU of its mask, online or not, with a full slice
 abbrev pub added : Machine → Event → Task
 added m e =
     record {
       state = asleep;
       policy = e .a;
       prio = e .b;
-      cpu = lowestAllowed m (e .mask);
+      cpu = first (bit (e .mask)) (m .n);
       slice = m .full;
       mask = e .mask;
     }
@@ -90,6 +91,15 @@ ticked c m = toFirst (λ t. tickedTask t c m) m (row m c)
 abbrev pub yielded : ℕ → Machine → Machine
 yielded c m = toFirst (λ t. requeue t c m) m (row m c)
 
+-- the tasks ts leave row c one after the other, and each enters the row of the lowest-numbered online CPU that it is allowed
+unfoldable pub evacuated : ℕ → List ℕ → Machine → Machine
+evacuated c [] m = m
+evacuated c (t ∷ ts) m = evacuated c ts (enqueue t (lowestAllowed m (taskOf m t .mask)) (dequeue t c m))
+
+-- CPU c is offline, and its tasks leave it front to back
+abbrev pub takenOffline : ℕ → Machine → Machine
+takenOffline c m = evacuated c (row m c) (withoutCpu c m)
+
 abbrev pub effectOf : Kind → Event → Machine → Machine
 effectOf add e m = write (e .who) (added m e) m
 effectOf remove e m = write (e .who) freeTask m
@@ -100,6 +110,8 @@ effectOf set-affinity e m = reaffined (e .who) (e .mask) m
 effectOf tick e m = ticked (e .who) m
 effectOf yield e m = yielded (e .who) m
 effectOf set-ordinary e m = withFlag (e .who) (e .b) m
+effectOf take-offline e m = takenOffline (e .who) m
+effectOf bring-online e m = withCpu (e .who) m
 
 -- the event's own effect; a number that is no kind has none
 abbrev pub byKind : {A : Type 0} → A → (Kind → A) → Option Kind → A

@@ -9,7 +9,7 @@ use Rattle.cpupri.specs.Record.{recordOf, lentRecord}
 use Rattle.levels.specs.declared.record.Record.{Record}
 use Rattle.rules.specs.Machine.{Column}
 use Rattle.rules.specs.Events.{Event, event}
-use Rattle.rules.specs.Cases.{tick}
+use Rattle.rules.specs.Cases.{tick, offline, online}
 use Rattle.rules.specs.Tables.{Tables, lent}
 use Rattle.rules.specs.Entry.{Result, result, checked, made, handled}
 
@@ -43,27 +43,30 @@ answers a f n r s = record { call = f; n = n; cpupri = r; tables = s; expected =
 -- ---- tables
 
 abbrev pub inColumn : Column → (List ℕ → List ℕ) → Tables → Tables
-inColumn Column.state f s = lent (s .full) (f (s .state)) (s .policy) (s .prio) (s .cpu) (s .slice) (s .mask) (s .rows) (s .counts) (s .flags) (s .log)
-inColumn Column.policy f s = lent (s .full) (s .state) (f (s .policy)) (s .prio) (s .cpu) (s .slice) (s .mask) (s .rows) (s .counts) (s .flags) (s .log)
-inColumn Column.prio f s = lent (s .full) (s .state) (s .policy) (f (s .prio)) (s .cpu) (s .slice) (s .mask) (s .rows) (s .counts) (s .flags) (s .log)
-inColumn Column.cpu f s = lent (s .full) (s .state) (s .policy) (s .prio) (f (s .cpu)) (s .slice) (s .mask) (s .rows) (s .counts) (s .flags) (s .log)
-inColumn Column.slice f s = lent (s .full) (s .state) (s .policy) (s .prio) (s .cpu) (f (s .slice)) (s .mask) (s .rows) (s .counts) (s .flags) (s .log)
-inColumn Column.mask f s = lent (s .full) (s .state) (s .policy) (s .prio) (s .cpu) (s .slice) (f (s .mask)) (s .rows) (s .counts) (s .flags) (s .log)
+inColumn Column.state f s = lent (s .full) (f (s .state)) (s .policy) (s .prio) (s .cpu) (s .slice) (s .mask) (s .rows) (s .counts) (s .flags) (s .online) (s .log)
+inColumn Column.policy f s = lent (s .full) (s .state) (f (s .policy)) (s .prio) (s .cpu) (s .slice) (s .mask) (s .rows) (s .counts) (s .flags) (s .online) (s .log)
+inColumn Column.prio f s = lent (s .full) (s .state) (s .policy) (f (s .prio)) (s .cpu) (s .slice) (s .mask) (s .rows) (s .counts) (s .flags) (s .online) (s .log)
+inColumn Column.cpu f s = lent (s .full) (s .state) (s .policy) (s .prio) (f (s .cpu)) (s .slice) (s .mask) (s .rows) (s .counts) (s .flags) (s .online) (s .log)
+inColumn Column.slice f s = lent (s .full) (s .state) (s .policy) (s .prio) (s .cpu) (f (s .slice)) (s .mask) (s .rows) (s .counts) (s .flags) (s .online) (s .log)
+inColumn Column.mask f s = lent (s .full) (s .state) (s .policy) (s .prio) (s .cpu) (s .slice) (f (s .mask)) (s .rows) (s .counts) (s .flags) (s .online) (s .log)
 
 abbrev pub withEntry : Column → ℕ → ℕ → Tables → Tables
 withEntry k t v s = inColumn k (λ xs. set xs t v) s
 
 abbrev pub withFull : ℕ → Tables → Tables
-withFull full s = lent full (s .state) (s .policy) (s .prio) (s .cpu) (s .slice) (s .mask) (s .rows) (s .counts) (s .flags) (s .log)
+withFull full s = lent full (s .state) (s .policy) (s .prio) (s .cpu) (s .slice) (s .mask) (s .rows) (s .counts) (s .flags) (s .online) (s .log)
 
 abbrev pub withRows : List ℕ → List ℕ → Tables → Tables
-withRows rs ns s = lent (s .full) (s .state) (s .policy) (s .prio) (s .cpu) (s .slice) (s .mask) rs ns (s .flags) (s .log)
+withRows rs ns s = lent (s .full) (s .state) (s .policy) (s .prio) (s .cpu) (s .slice) (s .mask) rs ns (s .flags) (s .online) (s .log)
 
 abbrev pub withFlags : List ℕ → Tables → Tables
-withFlags fs s = lent (s .full) (s .state) (s .policy) (s .prio) (s .cpu) (s .slice) (s .mask) (s .rows) (s .counts) fs (s .log)
+withFlags fs s = lent (s .full) (s .state) (s .policy) (s .prio) (s .cpu) (s .slice) (s .mask) (s .rows) (s .counts) fs (s .online) (s .log)
 
 abbrev pub withLog : List ℕ → Tables → Tables
-withLog log s = lent (s .full) (s .state) (s .policy) (s .prio) (s .cpu) (s .slice) (s .mask) (s .rows) (s .counts) (s .flags) log
+withLog log s = lent (s .full) (s .state) (s .policy) (s .prio) (s .cpu) (s .slice) (s .mask) (s .rows) (s .counts) (s .flags) (s .online) log
+
+abbrev pub withUp : ℕ → Tables → Tables
+withUp up s = lent (s .full) (s .state) (s .policy) (s .prio) (s .cpu) (s .slice) (s .mask) (s .rows) (s .counts) (s .flags) up (s .log)
 
 -- ---- a well-formed machine of two CPUs
 -- Task 0 runs on CPU 0 and task 1, its equal, waits there; CPU 1 has ordinary work, and task 1 could use it: "A machine need not be settled (no
@@ -73,7 +76,7 @@ withLog log s = lent (s .full) (s .state) (s .policy) (s .prio) (s .cpu) (s .sli
 abbrev pub lent2 : Tables
 lent2 =
     lent 100 (2 ∷ 2 ∷ 1 ∷ replicate 509 0) (1 ∷ 2 ∷ 1 ∷ replicate 509 0) (99 ∷ 99 ∷ 1 ∷ replicate 509 0) (0 ∷ 0 ∷ 1 ∷ replicate 509 0)
-    (100 ∷ 1 ∷ 50 ∷ replicate 509 0) (1 ∷ 3 ∷ 1 ∷ replicate 509 0) (0 ∷ 1 ∷ replicate 1022 65535) (2 ∷ 0 ∷ []) (0 ∷ 1 ∷ []) (replicate 252 4)
+    (100 ∷ 1 ∷ 50 ∷ replicate 509 0) (1 ∷ 3 ∷ 1 ∷ replicate 509 0) (0 ∷ 1 ∷ replicate 1022 65535) (2 ∷ 0 ∷ []) (0 ∷ 1 ∷ []) 3 (replicate 252 4)
 
 -- CPU 0 is at level 101, bit 37 of word 1, and CPU 1 at level 1
 abbrev pub record2 : Record
@@ -151,13 +154,24 @@ w6 =
     ∷ badRecord (lentRecord (4 ∷ 2 ∷ replicate 99 0 ++ 1 ∷ []) (1 ∷ 1 ∷ replicate 99 0 ++ 1 ∷ []) (3 ∷ 2 ^ 37 ∷ []) (101 ∷ 1 ∷ 0 ∷ replicate 61 255))
     ∷ checking 2 (withEntry Column.prio 0 98 (withEntry Column.prio 1 98 lent2)) ∷ checking 2 (withFlags (0 ∷ 0 ∷ []) lent2) ∷ []
 
+-- L8: "Refusal 2 also covers an online mask of 0 or with bits at N or above"
+abbrev pub onlineMasks : List LentCase
+onlineMasks = checking 2 (withUp 0 lent2) ∷ checking 2 (withUp 4 lent2) ∷ checking 2 (withUp 7 lent2) ∷ []
+
+-- "An offline CPU has an empty row and level INVALID": CPU 1 may be offline, at INVALID and at no other level, with its flag; CPU 0 has tasks, whatever
+-- its level says; and INVALID is held "for offline CPUs only"
+abbrev pub offlineCpus : List LentCase
+offlineCpus =
+    answers 0 check 2 (atLevels 101 255) (withUp 1 lent2) ∷ checking 2 (withUp 1 lent2) ∷ answers 2 check 2 (atLevels 101 0) (withUp 1 lent2)
+    ∷ checking 2 (withUp 2 lent2) ∷ answers 2 check 2 (atLevels 255 1) (withUp 2 lent2) ∷ answers 2 check 2 (atLevels 101 255) lent2 ∷ []
+
 -- ---- refusal 1
 
 -- tables of the right lengths for n CPUs, and nothing right in them
 abbrev pub dirty : ℕ → Tables
 dirty n =
     let column : List ℕ = replicate 512 7 in
-    lent 100 column column column column column column (replicate (512 * n) 3) (replicate n 9) (replicate n 5) (replicate 252 4)
+    lent 100 column column column column column column (replicate (512 * n) 3) (replicate n 9) (replicate n 5) 4 (replicate 252 4)
 
 abbrev pub noRecord : Record
 noRecord = lentRecord [] [] [] []
@@ -203,13 +217,13 @@ madeWith full =
       cpupri = noRecord;
       tables = withFull full (dirty 2);
       expected = result 0 0 (lentRecord (3 ∷ replicate 101 0) (2 ∷ replicate 101 0) (1 ∷ 0 ∷ []) (0 ∷ 0 ∷ replicate 62 255))
-          (lent full zeros zeros zeros zeros zeros zeros (replicate 1024 65535) (0 ∷ 0 ∷ []) (0 ∷ 0 ∷ []) (replicate 252 65535));
+          (lent full zeros zeros zeros zeros zeros zeros (replicate 1024 65535) (0 ∷ 0 ∷ []) (0 ∷ 0 ∷ []) 3 (replicate 252 65535));
     }
 
 abbrev pub freshMade : List LentCase
 freshMade = madeWith 100 ∷ madeWith 1 ∷ madeWith 1000 ∷ []
 
--- 2, "W1 to W6 fail anywhere", before 3, "kind not 1 to 9"; "A refusal reports 0 moves and changes nothing."
+-- 2, "W1 to W6 fail anywhere", before 3, "kinds not 1 to 11"; "A refusal reports 0 moves and changes nothing."
 abbrev pub illFormedFirst : List LentCase
 illFormedFirst = checking 2 (dirty 2) ∷ answers 2 (handle (event 0 0 0 0 0)) 2 record2 (withEntry Column.state 2 3 lent2) ∷ []
 
@@ -224,7 +238,7 @@ handledMove =
       tables = lent2;
       expected = result 0 1 (lentRecord (replicate 101 0 ++ 3 ∷ []) (replicate 101 0 ++ 2 ∷ []) (0 ∷ 2 ^ 37 ∷ []) (101 ∷ 101 ∷ replicate 62 255))
           (lent 100 (lent2 .state) (lent2 .policy) (lent2 .prio) (0 ∷ 1 ∷ 1 ∷ replicate 509 0) (lent2 .slice) (lent2 .mask)
-          (0 ∷ replicate 511 65535 ++ 1 ∷ replicate 511 65535) (1 ∷ 1 ∷ []) (0 ∷ 1 ∷ []) (1 ∷ 0 ∷ 1 ∷ 1 ∷ replicate 248 4));
+          (0 ∷ replicate 511 65535 ++ 1 ∷ replicate 511 65535) (1 ∷ 1 ∷ []) (0 ∷ 1 ∷ []) 3 (1 ∷ 0 ∷ 1 ∷ 1 ∷ replicate 248 4));
     }
     ∷ []
 
@@ -241,8 +255,31 @@ handledTick =
     }
     ∷ []
 
+-- L8: "the machine gains an online mask, carried like the record": CPU 1 goes offline, and comes back with its flag as its level; task 1 waits on
+-- CPU 0 and migrates to it
+abbrev pub handledOnline : List LentCase
+handledOnline =
+    record {
+      call = handle (offline 1);
+      n = 2;
+      cpupri = record2;
+      tables = lent2;
+      expected = result 0 0 (lentRecord (replicate 101 0 ++ 1 ∷ []) (replicate 101 0 ++ 1 ∷ []) (0 ∷ 2 ^ 37 ∷ []) (101 ∷ replicate 63 255)) (withUp 1 lent2);
+    }
+    ∷ record {
+      call = handle (online 1);
+      n = 2;
+      cpupri = atLevels 101 255;
+      tables = withUp 1 lent2;
+      expected = result 0 1 (lentRecord (replicate 101 0 ++ 3 ∷ []) (replicate 101 0 ++ 2 ∷ []) (0 ∷ 2 ^ 37 ∷ []) (101 ∷ 101 ∷ replicate 62 255))
+          (lent 100 (lent2 .state) (lent2 .policy) (lent2 .prio) (0 ∷ 1 ∷ 1 ∷ replicate 509 0) (lent2 .slice) (lent2 .mask)
+          (0 ∷ replicate 511 65535 ++ 1 ∷ replicate 511 65535) (1 ∷ 1 ∷ []) (0 ∷ 1 ∷ []) 3 (1 ∷ 0 ∷ 1 ∷ 1 ∷ replicate 248 4));
+    }
+    ∷ answers 10 (handle (offline 0)) 2 record2 lent2 ∷ answers 11 (handle (online 0)) 2 record2 lent2 ∷ []
+
 abbrev pub lentCases : List LentCase
 lentCases = w1 ++ w2 ++ w2Full ++ w3 ++ w4 ++ w5 ++ w6 ++ sizes ++ slices ++ lengths ++ freshMade ++ illFormedFirst ++ handledMove ++ handledTick
+    ++ onlineMasks ++ offlineCpus ++ handledOnline
 
 -- ---- the finder
 
@@ -267,3 +304,7 @@ abbrev pub finderCases : List FinderCase
 finderCases =
     finds 2 record2 101 3 0 1 2 ∷ finds 2 record2 101 1 0 255 0 ∷ finds 0 noRecord 102 0 1 255 0 ∷ finds 65 noRecord 102 0 1 255 0
     ∷ finds 2 noRecord 102 0 2 255 0 ∷ finds 2 record2 102 0 7 255 0 ∷ finds 2 record2 101 4 8 255 0 ∷ []
+
+-- L8: "a record may now hold INVALID below N, for offline CPUs only (the finder takes any)"
+abbrev pub finderOffline : List FinderCase
+finderOffline = finds 2 (atLevels 255 1) 101 3 0 1 2 ∷ finds 2 (atLevels 255 1) 101 1 0 255 0 ∷ finds 2 (atLevels 255 255) 101 3 0 255 0 ∷ []

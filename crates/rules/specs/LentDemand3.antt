@@ -10,7 +10,7 @@ use Rattle.bits.specs.Bit.{bit}
 use Rattle.rules.specs.Machine.{Machine, prioOf, taskPlaces, runnable}
 use Rattle.rules.specs.Outcome.{entryWidth}
 use Rattle.rules.specs.Migration.{Move}
-use Rattle.rules.specs.Demand3.{mostMoves, Steps, movers, origins, receivers, displacements}
+use Rattle.rules.specs.Demand3.{mostMoves, onlineCpus, Steps, movers, origins, receivers, displacements}
 use Rattle.rules.specs.Tables.{Tables, machineOf}
 
 -- number j of the log's entry i
@@ -47,8 +47,8 @@ pub record Entries (s : Tables) (vs : List Move) : Type 0 where
 
 -- `start` is the machine as the event's own effect leaves it, `moves` the number reported, and s the tables with which the event ends
 pub record LentDemand3 (n moves : ℕ) (start : Machine) (s : Tables) : Type 0 where
-  -- at most N - 1 migrations
-  pub few : moves ≤ mostMoves n
+  -- at most as many migrations as CPUs are online, less one
+  pub few : moves ≤ mostMoves (length (onlineCpus start))
   -- no CPU receives two
   pub no-cpu-twice : (i j : ℕ) → i < j → j < moves → receiverAt s i ≢ receiverAt s j
   -- no task moves twice
@@ -57,9 +57,9 @@ pub record LentDemand3 (n moves : ℕ) (start : Machine) (s : Tables) : Type 0 w
   pub falling : (i j : ℕ) → i ≤ j → j < moves → prioOf start (moverAt s j) ≤ prioOf start (moverAt s i)
   -- the count is the number of steps and of log entries, in order
   pub counted : (vs : List Move) × Steps start vs (machineOf n s) × (moves ≡ length vs) × Entries s vs
-  -- afterwards no waiting task outranks what runs on any CPU d it is allowed, and something runs there
+  -- afterwards no waiting task outranks what runs on any online CPU d it is allowed, and something runs there
   pub closing : (c p d : ℕ) → c < n → 0 < p → p < getD (s .counts) c 0 → d < n → bit (getD (s .mask) (taskAt s c p) 0) d ≡ true
-      → Busy s d × (getD (s .prio) (taskAt s c p) 0 ≤ getD (s .prio) (taskAt s d 0) 0)
+      → bit (s .online) d ≡ true → Busy s d × (getD (s .prio) (taskAt s c p) 0 ≤ getD (s .prio) (taskAt s d 0) 0)
   -- every runnable task stands in exactly one row, once: at one place, and at no other
   pub stands : (t : ℕ) → getD (s .state) t 0 ≡ runnable
       → (c : ℕ) × (p : ℕ) × (c < n) × (p < getD (s .counts) c 0) × (taskAt s c p ≡ t)

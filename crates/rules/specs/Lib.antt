@@ -1,4 +1,4 @@
--- Document 01, "Placing real-time tasks on N CPUs", as definitions. They are what must be believed. Read the files in the order below; comments
+-- Document 01, "Placing real-time tasks on N CPUs", as definitions, with L2, L3, L7 and L8 of document 02. They are what must be believed. Read the files in the order below; comments
 -- have the paper's words.
 --
 -- The notation
@@ -32,6 +32,7 @@ pub mod Migration
 pub mod Outcome
 pub mod Cases
 pub mod Sentences
+pub mod Hotplug
 pub mod Demand3
 pub mod Tables
 pub mod Entry

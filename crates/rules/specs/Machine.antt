@@ -1,12 +1,13 @@
 -- The machine: N CPUs, 512 task places, a run queue for each CPU, and the level that each CPU has by what it runs.
 -- Assumes nothing.
-use mathlib.Core.Bool.{Bool, false, cond}
+use mathlib.Core.Bool.{Bool, false, cond, _&&_}
 use mathlib.Core.List.{List, [], _∷_, _++_, map}
 use mathlib.Core.Option.{Option, none, some}
-use Prim.Native.Nat.{ℕ, suc, _-_}
-use lib.Dec.{ltb}
+use Prim.Native.Nat.{ℕ, suc, _-_, _^_}
+use lib.Bits.{bitAnd}
+use lib.Dec.{eqb, ltb}
 use lib.ListN.{getD, set, replicate}
-use Rattle.bits.specs.Bit.{bit, first}
+use Rattle.bits.specs.Bit.{bit, first, withBit, withoutBit}
 pub use Rattle.cpupri.specs.Level.{cpuPlaces, levelOf, invalid}
 use Rattle.rules.specs.Lists.{below, insertBefore, delete}
 
@@ -65,7 +66,7 @@ freeTask = record { state = free; policy = 0; prio = 0; cpu = 0; slice = 0; mask
 -- ---- the machine
 
 -- The columns stay columns. `rows` are the run queues: row c lists the tasks of CPU c in run order, the first runs, the others wait.
--- `flags` says which CPUs have ordinary work. `full` is a full time slice, in ticks.
+-- `flags` says which CPUs have ordinary work, bit c of `online` whether CPU c is online. `full` is a full time slice, in ticks.
 pub record Machine : Type 0 where
   pub n : ℕ
   pub full : ℕ
@@ -77,6 +78,7 @@ pub record Machine : Type 0 where
   pub mask : List ℕ
   pub rows : List (List ℕ)
   pub flags : List ℕ
+  pub online : ℕ
 
 abbrev pub taskOf : Machine → ℕ → Task
 taskOf m t =
@@ -99,6 +101,10 @@ row m c = getD (m .rows) c []
 abbrev pub flag : Machine → ℕ → ℕ
 flag m c = getD (m .flags) c 0
 
+-- CPU c is online
+abbrev pub isOnline : Machine → ℕ → Bool
+isOnline m c = bit (m .online) c
+
 -- the first of a row
 abbrev pub head : List ℕ → Option ℕ
 head [] = none
@@ -108,7 +114,7 @@ head (t ∷ ts) = some t
 abbrev pub running : Machine → ℕ → Option ℕ
 running m c = head (row m c)
 
--- all places free, rows empty, flags 0
+-- all places free, rows empty, flags 0, all N online
 abbrev pub fresh : ℕ → ℕ → Machine
 fresh n full =
     let zeros : List ℕ = replicate taskPlaces 0 in
@@ -123,17 +129,22 @@ fresh n full =
       mask = zeros;
       rows = replicate n [];
       flags = replicate n 0;
+      online = 2 ^ n - 1;
     }
 
 -- ---- levels, as the CPU-priority record has them: 0 idle, 1 ordinary work only, priority p at p + 2; INVALID for no CPU
 
--- A row's level is its first task's; an empty row's is its flag. It takes the priorities as a function.
+-- A row's level is its first task's; f is that of an empty one. It takes the priorities as a function.
 abbrev pub rowLevel : (ℕ → ℕ) → ℕ → List ℕ → ℕ
 rowLevel p f [] = f
 rowLevel p f (t ∷ ts) = levelOf (p t)
 
+-- without a task a CPU has its flag as its level, or INVALID if it is offline
+abbrev pub idleLevel : Machine → ℕ → ℕ
+idleLevel m c = cond (isOnline m c) (flag m c) invalid
+
 abbrev pub level : Machine → ℕ → ℕ
-level m c = rowLevel (prioOf m) (flag m c) (row m c)
+level m c = rowLevel (prioOf m) (idleLevel m c) (row m c)
 
 -- the levels as the CPU-priority record holds them, one for each of its CPU places
 abbrev pub levels : Machine → List ℕ
@@ -141,47 +152,62 @@ levels m = map (level m) (below (m .n)) ++ replicate (cpuPlaces - m .n) invalid
 
 -- ---- affinity
 
--- a task with the affinity mask k may use CPU c
+-- a task with the affinity mask k may use CPU c, and it is online
 abbrev pub allows : Machine → ℕ → ℕ → Bool
-allows m k c = bit k c
+allows m k c = bit k c && isOnline m c
 
 abbrev pub allowed : Machine → ℕ → ℕ → Bool
 allowed m t c = allows m (taskOf m t .mask) c
 
--- the lowest-numbered CPU that the mask k allows
+-- the lowest-numbered online CPU that the mask k allows
 abbrev pub lowestAllowed : Machine → ℕ → ℕ
 lowestAllowed m k = first (allows m k) (m .n)
+
+-- it allows no CPU that is online
+abbrev pub stranded : Machine → ℕ → Bool
+stranded m k = eqb (bitAnd k (m .online)) 0
 
 -- ---- changing a machine
 
 -- all parts of a machine, in their order
-abbrev pub build : ℕ → ℕ → List ℕ → List ℕ → List ℕ → List ℕ → List ℕ → List ℕ → List (List ℕ) → List ℕ → Machine
-build n full ss ps qs cs ls ks rs fs =
-    record { n = n; full = full; state = ss; policy = ps; prio = qs; cpu = cs; slice = ls; mask = ks; rows = rs; flags = fs }
+abbrev pub build : ℕ → ℕ → List ℕ → List ℕ → List ℕ → List ℕ → List ℕ → List ℕ → List (List ℕ) → List ℕ → ℕ → Machine
+build n full ss ps qs cs ls ks rs fs up =
+    record { n = n; full = full; state = ss; policy = ps; prio = qs; cpu = cs; slice = ls; mask = ks; rows = rs; flags = fs; online = up }
 
 pub data Column : Type 0 where
   state policy prio cpu slice mask : Column
 
 -- task t's entry in one column becomes v
 abbrev pub store : Column → ℕ → ℕ → Machine → Machine
-store state t v m = build (m .n) (m .full) (set (m .state) t v) (m .policy) (m .prio) (m .cpu) (m .slice) (m .mask) (m .rows) (m .flags)
-store policy t v m = build (m .n) (m .full) (m .state) (set (m .policy) t v) (m .prio) (m .cpu) (m .slice) (m .mask) (m .rows) (m .flags)
-store prio t v m = build (m .n) (m .full) (m .state) (m .policy) (set (m .prio) t v) (m .cpu) (m .slice) (m .mask) (m .rows) (m .flags)
-store cpu t v m = build (m .n) (m .full) (m .state) (m .policy) (m .prio) (set (m .cpu) t v) (m .slice) (m .mask) (m .rows) (m .flags)
-store slice t v m = build (m .n) (m .full) (m .state) (m .policy) (m .prio) (m .cpu) (set (m .slice) t v) (m .mask) (m .rows) (m .flags)
-store mask t v m = build (m .n) (m .full) (m .state) (m .policy) (m .prio) (m .cpu) (m .slice) (set (m .mask) t v) (m .rows) (m .flags)
+store state t v m = build (m .n) (m .full) (set (m .state) t v) (m .policy) (m .prio) (m .cpu) (m .slice) (m .mask) (m .rows) (m .flags) (m .online)
+store policy t v m = build (m .n) (m .full) (m .state) (set (m .policy) t v) (m .prio) (m .cpu) (m .slice) (m .mask) (m .rows) (m .flags) (m .online)
+store prio t v m = build (m .n) (m .full) (m .state) (m .policy) (set (m .prio) t v) (m .cpu) (m .slice) (m .mask) (m .rows) (m .flags) (m .online)
+store cpu t v m = build (m .n) (m .full) (m .state) (m .policy) (m .prio) (set (m .cpu) t v) (m .slice) (m .mask) (m .rows) (m .flags) (m .online)
+store slice t v m = build (m .n) (m .full) (m .state) (m .policy) (m .prio) (m .cpu) (set (m .slice) t v) (m .mask) (m .rows) (m .flags) (m .online)
+store mask t v m = build (m .n) (m .full) (m .state) (m .policy) (m .prio) (m .cpu) (m .slice) (set (m .mask) t v) (m .rows) (m .flags) (m .online)
 
 -- task t's entry in every column
 abbrev pub write : ℕ → Task → Machine → Machine
 write t τ m =
     build (m .n) (m .full) (set (m .state) t (τ .state)) (set (m .policy) t (τ .policy)) (set (m .prio) t (τ .prio)) (set (m .cpu) t (τ .cpu))
-    (set (m .slice) t (τ .slice)) (set (m .mask) t (τ .mask)) (m .rows) (m .flags)
+    (set (m .slice) t (τ .slice)) (set (m .mask) t (τ .mask)) (m .rows) (m .flags) (m .online)
 
 abbrev pub withRow : ℕ → List ℕ → Machine → Machine
-withRow c r m = build (m .n) (m .full) (m .state) (m .policy) (m .prio) (m .cpu) (m .slice) (m .mask) (set (m .rows) c r) (m .flags)
+withRow c r m = build (m .n) (m .full) (m .state) (m .policy) (m .prio) (m .cpu) (m .slice) (m .mask) (set (m .rows) c r) (m .flags) (m .online)
 
 abbrev pub withFlag : ℕ → ℕ → Machine → Machine
-withFlag c b m = build (m .n) (m .full) (m .state) (m .policy) (m .prio) (m .cpu) (m .slice) (m .mask) (m .rows) (set (m .flags) c b)
+withFlag c b m = build (m .n) (m .full) (m .state) (m .policy) (m .prio) (m .cpu) (m .slice) (m .mask) (m .rows) (set (m .flags) c b) (m .online)
+
+-- the CPUs of the word `up` are online
+abbrev pub withOnline : ℕ → Machine → Machine
+withOnline up m = build (m .n) (m .full) (m .state) (m .policy) (m .prio) (m .cpu) (m .slice) (m .mask) (m .rows) (m .flags) up
+
+-- CPU c is offline, or online, and all else as it was
+abbrev pub withoutCpu : ℕ → Machine → Machine
+withoutCpu c m = withOnline (withoutBit (m .online) c) m
+
+abbrev pub withCpu : ℕ → Machine → Machine
+withCpu c m = withOnline (withBit (m .online) c) m
 
 -- ---- entering and leaving a row
 

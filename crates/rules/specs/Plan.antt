@@ -6,7 +6,7 @@ use mathlib.Core.Bool.{Bool, true, false, cond, not}
 use mathlib.Core.Logic.{_≢_, _⊎_}
 use Prim.Native.Nat.{ℕ, _≤_, _<_}
 use Rattle.rules.specs.Lists.{In}
-use Rattle.rules.specs.Machine.{Machine, Task, taskOf, row, runnable, taskPlaces, highestPriority, write, enqueueAt, dequeue}
+use Rattle.rules.specs.Machine.{Machine, Task, taskOf, row, isOnline, runnable, taskPlaces, highestPriority, write, enqueueAt, dequeue}
 
 pub record Plan : Type 0 where
   pub task : ℕ
@@ -79,7 +79,7 @@ pub record Doable (m : Machine) (p : Plan) : Type 0 where
   pub leaves : When (p .leaves) ((p .origin < m .n) × In (p .task) (row m (p .origin)))
   -- it stands in no row, or stays there with its priority
   pub stays : When (not (p .leaves)) ((taskOf m (p .task) .state ≢ runnable) ⊎ ((p .becomes .prio ≡ taskOf m (p .task) .prio) × (p .enters ≡ false)))
-  pub enters : When (p .enters) ((p .target < m .n) × (p .becomes .prio ≤ highestPriority))
+  pub enters : When (p .enters) ((p .target < m .n) × (isOnline m (p .target) ≡ true) × (p .becomes .prio ≤ highestPriority))
 
 -- the plan p leaves the machine `done`
 pub record Carries (done m : Machine) (p : Plan) : Type 0 where

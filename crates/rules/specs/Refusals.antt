@@ -1,4 +1,4 @@
--- Refusals 3 to 9: for each kind a list of checks in the paper's order; the answer is the first that fails, or 0. A check is the finder's:
+-- Refusals 3 to 12: for each kind a list of checks in the paper's order; the answer is the first that fails, or 0. A check is the finder's:
 -- whether it fails, and its number. The finder's mask check is the events' too.
 -- Assumes nothing.
 use mathlib.Core.Path.{_≡_}
@@ -10,9 +10,11 @@ use lib.Dec.{eqb, leb}
 pub use Rattle.cpupri.specs.Found.{Check}
 unfoldable pub use Rattle.cpupri.specs.Found.{firstFailing}
 use Rattle.cpupri.specs.Found.{maskFits}
-use Rattle.rules.specs.Machine.{Machine, taskOf, row, free, asleep, runnable, fifo, rr, taskPlaces, lowestPriority, highestPriority}
+use Rattle.rules.specs.Lists.{any}
+use Rattle.rules.specs.Machine.{Machine, taskOf, row, isOnline, stranded, withoutCpu, free, asleep, runnable, fifo, rr}
+use Rattle.rules.specs.Machine.{taskPlaces, lowestPriority, highestPriority}
 use Rattle.rules.specs.Events.{Event, Kind, kindOf, byKind}
-use Rattle.rules.specs.Events.{add, remove, wake, sleep, set-priority, set-affinity, tick, yield, set-ordinary}
+use Rattle.rules.specs.Events.{add, remove, wake, sleep, set-priority, set-affinity, tick, yield, set-ordinary, take-offline, bring-online}
 
 -- ---- the numbers
 
@@ -42,6 +44,15 @@ badMask = 8
 
 abbrev pub emptyRow : ℕ
 emptyRow = 9
+
+abbrev pub nowhere : ℕ
+nowhere = 10
+
+abbrev pub wrongCpuState : ℕ
+wrongCpuState = 11
+
+abbrev pub lastCpu : ℕ
+lastCpu = 12
 
 -- ---- checks
 
@@ -94,19 +105,44 @@ module _ (m : Machine) (e : Event) where
   isEmpty [] = true
   isEmpty (t ∷ ts) = false
 
+  -- of an offline CPU 11 is said instead
   abbrev nothingRuns : Check
-  nothingRuns = record { number = emptyRow; fails = isEmpty (row m (e .who)) }
+  nothingRuns = record { number = emptyRow; fails = isOnline m (e .who) && isEmpty (row m (e .who)) }
+
+  -- the task woken
+  abbrev nowhereToWake : Check
+  nowhereToWake = record { number = nowhere; fails = stranded m (taskOf m (e .who) .mask) }
+
+  -- the runnable task whose mask changes
+  abbrev nowhereAllowed : Check
+  nowhereAllowed = record { number = nowhere; fails = eqb (taskOf m (e .who) .state) runnable && stranded m (e .mask) }
+
+  -- a task of the CPU that goes; every other runnable task has its CPU still (laws: Online)
+  abbrev nowhereToGo : Check
+  nowhereToGo = record { number = nowhere; fails = any (λ t. stranded (withoutCpu (e .who) m) (taskOf m t .mask)) (row m (e .who)) }
+
+  abbrev isOffline : Check
+  isOffline = record { number = wrongCpuState; fails = not (isOnline m (e .who)) }
+
+  abbrev isBack : Check
+  isBack = record { number = wrongCpuState; fails = isOnline m (e .who) }
+
+  -- no CPU is online without it
+  abbrev onlyOne : Check
+  onlyOne = record { number = lastCpu; fails = eqb (withoutCpu (e .who) m .online) 0 }
 
   abbrev pub checks : Kind → List Check
   checks add = noTask ∷ notIn free ∷ noPolicy ∷ noPriority ∷ noMask ∷ []
   checks remove = noTask ∷ notIn asleep ∷ []
-  checks wake = noTask ∷ notIn asleep ∷ []
+  checks wake = noTask ∷ notIn asleep ∷ nowhereToWake ∷ []
   checks sleep = noTask ∷ notIn runnable ∷ []
   checks set-priority = noTask ∷ isFree ∷ noPriority ∷ []
-  checks set-affinity = noTask ∷ isFree ∷ noMask ∷ []
-  checks tick = noCpu ∷ []
-  checks yield = noCpu ∷ nothingRuns ∷ []
+  checks set-affinity = noTask ∷ isFree ∷ noMask ∷ nowhereAllowed ∷ []
+  checks tick = noCpu ∷ isOffline ∷ []
+  checks yield = noCpu ∷ nothingRuns ∷ isOffline ∷ []
   checks set-ordinary = noCpu ∷ noFlag ∷ []
+  checks take-offline = noCpu ∷ nowhereToGo ∷ isOffline ∷ onlyOne ∷ []
+  checks bring-online = noCpu ∷ isBack ∷ []
 
   -- the checks of an event
   abbrev pub eventChecks : List Check

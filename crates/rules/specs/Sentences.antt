@@ -316,16 +316,16 @@ displacing =
 
 -- ---- refusals: "Checked in this order."; "A refusal reports 0 moves and changes nothing."
 
--- 3: "kind not 1 to 9", whatever else is wrong
+-- 3: "kind not 1 to 9", and with L8 "kinds not 1 to 11", whatever else is wrong
 abbrev pub refusal3 : List Case
-refusal3 = fresh2 3 (event 0 0 0 0 0) ∷ fresh2 3 (event 10 0 0 0 0) ∷ fresh2 3 (event 10 noise noise noise noise) ∷ []
+refusal3 = fresh2 3 (event 0 0 0 0 0) ∷ fresh2 3 (event 12 0 0 0 0) ∷ fresh2 3 (event 12 noise noise noise noise) ∷ []
 
--- 4: "task number 512 or more (kinds 1 to 6), CPU number N or more (7 to 9)", whatever else is wrong
+-- 4: "task number 512 or more (kinds 1 to 6), CPU number N or more (7 to 9)", and with L8 of 10 and 11, whatever else is wrong
 abbrev pub refusal4 : List Case
 refusal4 =
     fresh2 4 (event 1 512 0 0 0) ∷ fresh2 4 (event 2 512 0 0 0) ∷ fresh2 4 (event 3 512 0 0 0) ∷ fresh2 4 (event 4 512 0 0 0)
     ∷ fresh2 4 (event 5 512 0 0 0) ∷ fresh2 4 (event 6 512 0 0 0) ∷ fresh2 4 (event 7 2 0 0 0) ∷ fresh2 4 (event 8 2 0 0 0)
-    ∷ fresh2 4 (event 9 2 0 2 0) ∷ []
+    ∷ fresh2 4 (event 9 2 0 2 0) ∷ fresh2 4 (event 10 2 0 0 0) ∷ fresh2 4 (event 11 2 0 0 0) ∷ []
 
 -- 5: "add to a place not free; remove or wake of one not asleep; sleep of one not runnable; priority or mask for a free place", whatever else is wrong
 abbrev pub refusal5 : List Case

@@ -21,7 +21,8 @@ nothing = 65535
 abbrev pub logPlaces : ℕ
 logPlaces = logEntries * entryWidth
 
--- the full slice, a number; task columns; rows as one list, row c from place 512 * c on; a count and a flag for each CPU; the move log
+-- the full slice, a number; task columns; rows as one list, row c from place 512 * c on; a count and a flag for each CPU; the online mask, a
+-- number; the move log
 pub record Tables : Type 0 where
   pub full : ℕ
   pub state : List ℕ
@@ -33,12 +34,13 @@ pub record Tables : Type 0 where
   pub rows : List ℕ
   pub counts : List ℕ
   pub flags : List ℕ
+  pub online : ℕ
   pub log : List ℕ
 
 -- put together, in that order
-abbrev pub lent : ℕ → List ℕ → List ℕ → List ℕ → List ℕ → List ℕ → List ℕ → List ℕ → List ℕ → List ℕ → List ℕ → Tables
-lent full ss ps qs cs ls ks rs ns fs log =
-    record { full = full; state = ss; policy = ps; prio = qs; cpu = cs; slice = ls; mask = ks; rows = rs; counts = ns; flags = fs; log = log }
+abbrev pub lent : ℕ → List ℕ → List ℕ → List ℕ → List ℕ → List ℕ → List ℕ → List ℕ → List ℕ → List ℕ → ℕ → List ℕ → Tables
+lent full ss ps qs cs ls ks rs ns fs up log =
+    record { full = full; state = ss; policy = ps; prio = qs; cpu = cs; slice = ls; mask = ks; rows = rs; counts = ns; flags = fs; online = up; log = log }
 
 -- ---- rows
 
@@ -72,6 +74,7 @@ machineOf n s =
       mask = s .mask;
       rows = rowsOf (s .counts) (s .rows);
       flags = s .flags;
+      online = s .online;
     }
 
 abbrev pub tablesOf : Machine → List ℕ → Tables
@@ -87,6 +90,7 @@ tablesOf m log =
       rows = flatOf (m .rows);
       counts = rowCounts (m .rows);
       flags = m .flags;
+      online = m .online;
       log = log;
     }
 

@@ -59,13 +59,16 @@ pub record WellFormed (m : Machine) : Type 0 where
   pub tasks : (t : ℕ) → t < taskPlaces → Sound (m .n) (m .full) (taskOf m t)
   -- W3
   pub flags : (c : ℕ) → c < m .n → flag m c ≤ 1
-  -- W4, for every number t: no other number stands in a row
+  -- W4, for every number t: no other number stands in a row; allowed is a CPU that is online, so the rows of others are empty
   pub rows : (t c : ℕ) → occ t (row m c) ≡ standing (taskOf m t) c
   pub home : (t : ℕ) → taskOf m t .state ≡ runnable → allowed m t (taskOf m t .cpu) ≡ true
   -- W5
   pub falling : (c : ℕ) → Falling (prioOf m) (row m c)
+  -- some CPU is online, and no number from N on
+  pub online-some : 0 < m .online
+  pub online-fits : m .online < 2 ^ m .n
 
--- ---- as a test: one walk over the six columns together, one over the rows, one over the flags
+-- ---- as a test: one walk over the six columns together, one over the rows, one over the flags, and the online mask
 
 -- a full slice of 1 to 1000 ticks
 abbrev pub sliceFits : ℕ → Bool
@@ -115,6 +118,8 @@ falls p (t ∷ u ∷ us) = leb (p u) (p t) && falls p (u ∷ us)
 abbrev pub soundRow : Machine → ℕ → List ℕ → Bool
 soundRow m c r = each (λ i u. eqb (standing (taskOf m u) c) 1) 0 r && falls (prioOf m) r
 
--- W1 to W5 of a machine whose N, full slice and lengths are right
+-- W1 to W5 of a machine whose N, full slice and lengths are right, and its online mask
 abbrev pub wellFormed : Machine → Bool
-wellFormed m = each (soundTask m) 0 (tasks m) && each (soundRow m) 0 (m .rows) && each (λ c f. leb f 1) 0 (m .flags)
+wellFormed m =
+    each (soundTask m) 0 (tasks m) && each (soundRow m) 0 (m .rows) && each (λ c f. leb f 1) 0 (m .flags)
+    && maskFits (m .n) (m .online)

@@ -7,7 +7,7 @@ pub const BAD_SIZE: u8 = 1;
 // W1 to W6 fail
 pub const ILL_FORMED: u8 = 2;
 
-// kind not 1 to 9
+// kind not 1 to 11
 pub const UNKNOWN_KIND: u8 = 3;
 
 // task number 512 or more, CPU number N or more
@@ -25,3 +25,12 @@ pub const BAD_VALUE: u8 = 7;
 pub const BAD_MASK: u8 = 8;
 
 pub const EMPTY_ROW: u8 = 9;
+
+// a runnable task, or one that wakes, would have no allowed CPU that is online
+pub const NOWHERE: u8 = 10;
+
+// a tick or a yield on an offline CPU; a CPU that is offline or online already
+pub const WRONG_CPU_STATE: u8 = 11;
+
+// the last online CPU
+pub const LAST_CPU: u8 = 12;

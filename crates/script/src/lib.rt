@@ -5,10 +5,10 @@
 //     default, N 2                       the same by the maker that is told no full slice
 //     add 0, 1, 50, 3                    an event: who, a, b and mask; so with remove, wake, sleep, priority, mask,
 //                                        tick, yield and ordinary
-//     kind 10 0, 0, 0, 0                 an event of any kind
+//     kind 10 0, 0, 0, 0                 an event of any kind: CPU 0 goes offline
 //     check                              the check of the tables
 //     let slice (5) of 0 be 2            one number of a table changed; (1) is the states, (3) the priorities,
-//                                        (4) the CPUs, (5) the slices, (9) the flags
+//                                        (4) the CPUs, (5) the slices, (9) the flags, (10) the online mask
 //     give CPU 0 task 0, priority 90, mask 3    a task runs there, without an event
 //     next calls lend 2 rows             and as many counts and flags
 //     hand in slice 50                   the next calls have another full slice

@@ -29,6 +29,7 @@ pub struct Tables {
     pub log: [u16; LOG],
     pub last: Outcome,
     pub full: u32,
+    pub online: u64,
 }
 
 // The five numbers of an event.
@@ -61,6 +62,7 @@ fn make(
     rows: &mut [u16],
     counts: &mut [u16],
     flags: &mut [u8],
+    online: &mut u64,
     log: &mut [u16],
     record: Record,
 ) -> Made {
@@ -77,6 +79,7 @@ fn make(
             rows,
             counts,
             flags,
+            online,
             log,
             record,
         );
@@ -92,6 +95,7 @@ fn make(
         rows,
         counts,
         flags,
+        online,
         log,
         record,
     )
@@ -111,6 +115,7 @@ impl Tables {
         let mut counts = [1u16; 65];
         let mut flags = [1u8; 65];
         let mut log = [1u16; LOG];
+        let mut online = 0u64;
         let made = make(
             named,
             n as usize,
@@ -124,6 +129,7 @@ impl Tables {
             &mut rows[..512 * cpus],
             &mut counts[..cpus],
             &mut flags[..cpus],
+            &mut online,
             &mut log,
             Record::fresh(0),
         );
@@ -142,6 +148,7 @@ impl Tables {
             log,
             last: first(made),
             full: made.full,
+            online,
         }
     }
 
@@ -158,6 +165,7 @@ impl Tables {
         let mut counts = self.counts;
         let mut flags = self.flags;
         let mut log = self.log;
+        let mut online = self.online;
         let o = machine::event(
             self.n as usize,
             self.full,
@@ -170,6 +178,7 @@ impl Tables {
             &mut rows[..512 * cpus],
             &mut counts[..cpus],
             &mut flags[..cpus],
+            &mut online,
             &mut log,
             e.kind,
             e.who,
@@ -193,6 +202,7 @@ impl Tables {
             log,
             last: o,
             full: self.full,
+            online,
         }
     }
 
@@ -215,6 +225,7 @@ impl Tables {
         let counts = self.counts;
         let flags = self.flags;
         let log = self.log;
+        let online = self.online;
         checker::check::check(
             self.n as usize,
             self.full,
@@ -227,6 +238,7 @@ impl Tables {
             &rows[..512 * cpus],
             &counts[..cpus],
             &flags[..cpus],
+            &online,
             &log,
             self.record(),
         )
@@ -246,7 +258,7 @@ impl Tables {
         t
     }
 
-    // One number of a table by itself. The tables are numbered in document 01's order.
+    // One number of a table by itself, or the online mask. The tables are numbered in document 01's order.
     pub fn put(self, table: u64, place: u64, value: u64) -> Tables {
         let mut t = self;
         let i = below(place, 512);
@@ -256,6 +268,7 @@ impl Tables {
             4 => t.cpu[i] = small(value),
             5 => t.slice[i] = half(value),
             9 => t.flags[below(place, 65)] = small(value),
+            10 => t.online = value,
             _ => {}
         }
         t

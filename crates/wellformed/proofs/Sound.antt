@@ -13,19 +13,19 @@ use Rattle.rules.specs.WellFormed.{zeros, fits}
 use Rattle.laws.proofs.Bools.{both}
 use Rattle.wellformed.specs.Passes.{soundWhen}
 
-module _ (placed : Bool) (n full : ℕ) (τ : Task) where
+module _ (placed : Bool) (n full online : ℕ) (τ : Task) where
   abbrev rest : Bool
-  rest = eqb (τ .state) asleep || (eqb (τ .state) runnable && placed && bit (τ .mask) (τ .cpu))
+  rest = eqb (τ .state) asleep || (eqb (τ .state) runnable && placed && (bit (τ .mask) (τ .cpu) && bit online (τ .cpu)))
 
-  pub sound-free : τ .state ≡ free → soundWhen placed n full τ ≡ zeros τ
+  pub sound-free : τ .state ≡ free → soundWhen placed n full online τ ≡ zeros τ
   unfolding soundWhen
   sound-free e = ap (λ (b : Bool). cond b (zeros τ) (fits n full τ && rest)) (eq-eqb (τ .state) free e)
 
-  pub sound-out : τ .state ≢ free → fits n full τ ≡ false → soundWhen placed n full τ ≡ false
+  pub sound-out : τ .state ≢ free → fits n full τ ≡ false → soundWhen placed n full online τ ≡ false
   unfolding soundWhen
   sound-out e f = ap₂ (λ (b g : Bool). cond b (zeros τ) (g && rest)) (ne-eqb (τ .state) free e) f
 
-  pub sound-in : τ .state ≢ free → fits n full τ ≡ true → soundWhen placed n full τ ≡ rest
+  pub sound-in : τ .state ≢ free → fits n full τ ≡ true → soundWhen placed n full online τ ≡ rest
   unfolding soundWhen
   sound-in e f = ap₂ (λ (b g : Bool). cond b (zeros τ) (g && rest)) (ne-eqb (τ .state) free e) f
 

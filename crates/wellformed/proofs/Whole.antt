@@ -13,11 +13,12 @@ use lib.Seq.{length-take-le, getD-take, getD-drop, take-take, ext-getD}
 use borrow.Author.Tests.{eqb-true, eq-eqb, le-leb, ltb-true, ltb-false, lt-ltb, le-ltb}
 use Rattle.bits.specs.Bit.{bit, digit}
 use Rattle.bits.proofs.Tests.{and-both}
+use Rattle.cpupri.specs.Found.{maskFits}
 use Rattle.cpupri.specs.Consistent.{consistent, levelsFit, agrees, same}
 use Rattle.levels.specs.declared.record.Record.{Record}
 use Rattle.consistency.proofs.Agrees.{same-is, is-same, fit-at, fits-above}
 use Rattle.rules.specs.Lists.{occ, In, each}
-use Rattle.rules.specs.Machine.{Machine, Task, taskOf, freeTask, prioOf, row, flag, rowLevel, levels, free, asleep, runnable, taskPlaces, cpuPlaces, highestPriority}
+use Rattle.rules.specs.Machine.{Machine, Task, taskOf, freeTask, prioOf, row, idleLevel, rowLevel, levels, free, asleep, runnable, taskPlaces, cpuPlaces, highestPriority}
 use Rattle.rules.specs.WellFormed.{Shape, Fit, WellFormed, standing, zeros, fits, soundTask, soundRow, falls, tasks, wellFormed}
 use Rattle.rules.specs.Tables.{Tables, machineOf, Stored, storedRows, recordFits, tablesFit}
 use Rattle.laws.proofs.Bools.{both}
@@ -43,23 +44,26 @@ digit-one true h = refl
 digit-one false h = absurd (not-suc-le-zero h)
 
 -- the test of a task passes also where more is placed
-sound-more : (p q : Bool) (n full : ℕ) (τ : Task) → (τ .state ≡ runnable → p ≡ true → q ≡ true) → soundWhen p n full τ ≡ true → soundWhen q n full τ ≡ true
+sound-more : (p q : Bool) (n full online : ℕ) (τ : Task) → (τ .state ≡ runnable → p ≡ true → q ≡ true) → soundWhen p n full online τ ≡ true → soundWhen q n full online τ ≡ true
 unfolding soundWhen
-sound-more p q n full τ f h = go (eqb (τ .state) free) h
+sound-more p q n full online τ f h = go (eqb (τ .state) free) h
   where
-    placed : (a b : Bool) → eqb (τ .state) runnable ≡ a → (b || (a && p && bit (τ .mask) (τ .cpu))) ≡ true → (b || (a && q && bit (τ .mask) (τ .cpu))) ≡ true
+    may : Bool
+    may = bit (τ .mask) (τ .cpu) && bit online (τ .cpu)
+
+    placed : (a b : Bool) → eqb (τ .state) runnable ≡ a → (b || (a && p && may)) ≡ true → (b || (a && q && may)) ≡ true
     placed a true e t = refl
     placed true false e t =
-        let k = both p (bit (τ .mask) (τ .cpu)) t in
-        and-both q (bit (τ .mask) (τ .cpu)) (f (eqb-true (τ .state) runnable e) (k .0)) (k .1)
+        let k = both p (may) t in
+        and-both q (may) (f (eqb-true (τ .state) runnable e) (k .0)) (k .1)
     placed false false e t = t
 
-    go : (b : Bool) → cond b (zeros τ) (fits n full τ && (eqb (τ .state) asleep || (eqb (τ .state) runnable && p && bit (τ .mask) (τ .cpu)))) ≡ true
-        → cond b (zeros τ) (fits n full τ && (eqb (τ .state) asleep || (eqb (τ .state) runnable && q && bit (τ .mask) (τ .cpu)))) ≡ true
+    go : (b : Bool) → cond b (zeros τ) (fits n full τ && (eqb (τ .state) asleep || (eqb (τ .state) runnable && p && may))) ≡ true
+        → cond b (zeros τ) (fits n full τ && (eqb (τ .state) asleep || (eqb (τ .state) runnable && q && may))) ≡ true
     go true t = t
     go false t =
-        let k = both (fits n full τ) (eqb (τ .state) asleep || (eqb (τ .state) runnable && p && bit (τ .mask) (τ .cpu))) t in
-        and-both (fits n full τ) (eqb (τ .state) asleep || (eqb (τ .state) runnable && q && bit (τ .mask) (τ .cpu))) (k .0)
+        let k = both (fits n full τ) (eqb (τ .state) asleep || (eqb (τ .state) runnable && p && may)) t in
+        and-both (fits n full τ) (eqb (τ .state) asleep || (eqb (τ .state) runnable && q && may)) (k .0)
         (placed (eqb (τ .state) runnable) (eqb (τ .state) asleep) refl (k .1))
 
 falls-at : (p : ℕ → ℕ) (r : List ℕ) → ((i : ℕ) → suc i < length r → p (getD r (suc i) 0) ≤ p (getD r i 0)) → falls p r ≡ true
@@ -146,9 +150,10 @@ module _ (n : ℕ) (s : Tables) (shape : Shape (machineOf n s)) (rl : length (s 
   -- ---- what passes fits
 
   module _ (r : Record) (levelled : length (r .levels) ≡ cpuPlaces) (marks : List ℕ)
-      (p : Rows n (s .state) (s .prio) (s .cpu) (s .rows) (s .counts) (s .flags) (r .levels))
+      (p : Rows n (s .state) (s .prio) (s .cpu) (s .rows) (s .counts) (s .flags) (s .online) (r .levels))
       (placed : (u : ℕ) → mark marks u ≡ standings (s .counts) (s .rows) n u)
-      (q : Columns n (s .full) (s .state) (s .policy) (s .prio) (s .cpu) (s .slice) (s .mask) marks) (ok : consistent n r ≡ true) where
+      (q : Columns n (s .full) (s .online) (s .state) (s .policy) (s .prio) (s .cpu) (s .slice) (s .mask) marks) (ok : consistent n r ≡ true)
+      (up : maskFits n (s .online) ≡ true) where
     few : (c : ℕ) → c < n → getD (s .counts) c 0 ≤ taskPlaces
     few c h = p .row c h .most
 
@@ -192,7 +197,7 @@ module _ (n : ℕ) (s : Tables) (shape : Shape (machineOf n s)) (rl : length (s 
 
     task : (t : ℕ) → t < taskPlaces → soundTask m t (taskOf m t) ≡ true
     unfolding soundWhen
-    task t h = sound-more (marked marks t) (eqb (occ t (row m (taskOf m t .cpu))) 1) n (s .full) (taskOf m t) (λ z e. once t e) (q t h)
+    task t h = sound-more (marked marks t) (eqb (occ t (row m (taskOf m t .cpu))) 1) n (s .full) (s .online) (taskOf m t) (λ z e. once t e) (q t h)
 
     each-task : each (soundTask m) 0 (tasks m) ≡ true
     each-task =
@@ -231,7 +236,7 @@ module _ (n : ℕ) (s : Tables) (shape : Shape (machineOf n s)) (rl : length (s 
         at : (c : ℕ) → c < cpuPlaces → (b : Bool) → ltb c n ≡ b → getD (r .levels) c 0 ≡ getD (levels m) c 0
         at c l true e =
             let h : c < n = ltb-true c n e in
-            p .row c h .right ∙ ap (rowLevel (prioOf m) (flag m c)) (queue-row c h (few c h)) ∙ sym (levels-below m c h)
+            p .row c h .right ∙ ap (rowLevel (prioOf m) (idleLevel m c)) (queue-row c h (few c h)) ∙ sym (levels-below m c h)
         at c l false e =
             let h : n ≤ c = ltb-false c n e in
             fits-above n c (getD (r .levels) c 0) h
@@ -240,7 +245,7 @@ module _ (n : ℕ) (s : Tables) (shape : Shape (machineOf n s)) (rl : length (s 
 
     pub passes-fit : tablesFit n r s ≡ true
     passes-fit =
-        and-both _ _ (and-both _ _ (stored-test (s .counts) (s .rows) long stored) (and-both _ _ (and-both _ _ each-task each-row) each-flag))
+        and-both _ _ (and-both _ _ (stored-test (s .counts) (s .rows) long stored) (and-both _ _ (and-both _ _ (and-both _ _ each-task each-row) each-flag) up))
         (and-both _ _ ok (is-same (r .levels) (levels m) same-levels))
 
   -- ---- what fits passes
@@ -284,7 +289,7 @@ module _ (n : ℕ) (s : Tables) (shape : Shape (machineOf n s)) (rl : length (s 
         let prev : prioOf m (getD (row m c) i 0) ≡ getD (s .prio) (getD (part (s .rows) c) i 0) 0 = ap (prioOf m) (row-place c h (most c h) i (omega arith)) in
         omega arith
 
-    pub fit-rows : Rows n (s .state) (s .prio) (s .cpu) (s .rows) (s .counts) (s .flags) (r .levels)
+    pub fit-rows : Rows n (s .state) (s .prio) (s .cpu) (s .rows) (s .counts) (s .flags) (s .online) (r .levels)
     fit-rows =
         record {
           row = λ c h.
@@ -302,7 +307,7 @@ module _ (n : ℕ) (s : Tables) (shape : Shape (machineOf n s)) (rl : length (s 
                 rest = λ i g l. part-at (s .rows) c i l ∙ held .unused c i (inside h) g l;
                 small = w .flags c h;
                 right = ap (λ (ls : List ℕ). getD ls c 0) (same-is (r .levels) (levels m) (back .1)) ∙ levels-below m c h
-                    ∙ ap (rowLevel (prioOf m) (flag m c)) (sym (queue-row c h (most c h)));
+                    ∙ ap (rowLevel (prioOf m) (idleLevel m c)) (sym (queue-row c h (most c h)));
               };
           once = λ u.
               let least : standings (s .counts) (s .rows) n u ≤ digit (ltb (taskOf m u .cpu) n) =
@@ -328,13 +333,18 @@ module _ (n : ℕ) (s : Tables) (shape : Shape (machineOf n s)) (rl : length (s 
             absurd (omega (arith, one))
 
     pub fit-columns : (marks : List ℕ) → ((u : ℕ) → mark marks u ≡ standings (s .counts) (s .rows) n u)
-        → Columns n (s .full) (s .state) (s .policy) (s .prio) (s .cpu) (s .slice) (s .mask) marks
+        → Columns n (s .full) (s .online) (s .state) (s .policy) (s .prio) (s .cpu) (s .slice) (s .mask) marks
     unfolding soundWhen
     fit-columns marks placed t h =
-        let tests = both _ _ (both _ _ (front .1) .0) in
-        sound-more (eqb (occ t (row m (taskOf m t .cpu))) 1) (marked marks t) n (s .full) (taskOf m t) (λ z e. in-set marks placed t e)
+        let tests = both _ _ (both _ _ (both _ _ (front .1) .0) .0) in
+        sound-more (eqb (occ t (row m (taskOf m t .cpu))) 1) (marked marks t) n (s .full) (s .online) (taskOf m t) (λ z e. in-set marks placed t e)
         (subst (λ (τ : Task). soundTask m t τ ≡ true) (tasks-at m shape t h)
         (each-at freeTask (soundTask m) 0 (tasks m) (tests .0) t t (omega arith) (subst (λ (x : ℕ). t < x) (sym (tasks-length m shape)) h)))
 
     pub fit-consistent : consistent n r ≡ true
     fit-consistent = back .0
+
+    pub fit-online : maskFits n (s .online) ≡ true
+    fit-online =
+        both (each (soundTask m) 0 (tasks m) && each (soundRow m) 0 (m .rows) && each (λ c f. leb f 1) 0 (m .flags)) (maskFits n (s .online)) (front .1)
+        .1

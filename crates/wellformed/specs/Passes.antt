@@ -8,7 +8,7 @@ use lib.Dec.{eqb}
 use lib.ListN.{getD, take, drop}
 use Rattle.bits.specs.Bit.{bit}
 use Rattle.rules.specs.Lists.{occ}
-use Rattle.rules.specs.Machine.{Task, taskPlaces, free, asleep, runnable}
+use Rattle.rules.specs.Machine.{Task, taskPlaces, free, asleep, runnable, invalid}
 use Rattle.rules.specs.WellFormed.{zeros, fits}
 use Rattle.rowcheck.specs.Placed.{marked, Row}
 
@@ -26,8 +26,9 @@ unfoldable pub standings : List ℕ → List ℕ → ℕ → ℕ → ℕ
 standings counts rows zero u = 0
 standings counts rows (suc k) u = standings counts rows k u + occ u (queue counts rows k)
 
-pub record Rows (n : ℕ) (state prio cpu rows counts flags levels : List ℕ) : Type 0 where
-  pub row : (c : ℕ) → c < n → Row state prio cpu (part rows c) c (getD counts c 0) (getD flags c 0) (getD levels c 0)
+pub record Rows (n : ℕ) (state prio cpu rows counts flags : List ℕ) (online : ℕ) (levels : List ℕ) : Type 0 where
+  pub row : (c : ℕ) → c < n
+      → Row state prio cpu (part rows c) c (getD counts c 0) (getD flags c 0) (cond (bit online c) (getD flags c 0) invalid) (getD levels c 0)
   pub once : (u : ℕ) → standings counts rows n u ≤ 1
 
 -- ---- the columns
@@ -43,12 +44,12 @@ taskAt state policy prio cpu slice mask t =
 unfoldable pub rangesFit : ℕ → ℕ → ℕ → ℕ → ℕ → ℕ → ℕ → Bool
 rangesFit n full policy prio cpu slice mask = fits n full (task runnable policy prio cpu slice mask)
 
--- W1 and W2, and of a runnable task W4: it is placed, and its CPU is allowed
-unfoldable pub soundWhen : Bool → ℕ → ℕ → Task → Bool
-soundWhen placed n full τ =
+-- W1 and W2, and of a runnable task W4: it is placed, and its CPU is allowed and online
+unfoldable pub soundWhen : Bool → ℕ → ℕ → ℕ → Task → Bool
+soundWhen placed n full online τ =
     cond (eqb (τ .state) free) (zeros τ)
-    (fits n full τ && (eqb (τ .state) asleep || (eqb (τ .state) runnable && placed && bit (τ .mask) (τ .cpu))))
+    (fits n full τ && (eqb (τ .state) asleep || (eqb (τ .state) runnable && placed && (bit (τ .mask) (τ .cpu) && bit online (τ .cpu)))))
 
-abbrev pub Columns : ℕ → ℕ → List ℕ → List ℕ → List ℕ → List ℕ → List ℕ → List ℕ → List ℕ → Type 0
-Columns n full state policy prio cpu slice mask marks =
-    (t : ℕ) → t < taskPlaces → soundWhen (marked marks t) n full (taskAt state policy prio cpu slice mask t) ≡ true
+abbrev pub Columns : ℕ → ℕ → ℕ → List ℕ → List ℕ → List ℕ → List ℕ → List ℕ → List ℕ → List ℕ → Type 0
+Columns n full online state policy prio cpu slice mask marks =
+    (t : ℕ) → t < taskPlaces → soundWhen (marked marks t) n full online (taskAt state policy prio cpu slice mask t) ≡ true

@@ -12,10 +12,11 @@ use rowcheck::marks::WORDS;
 use rules::task;
 use runqueue::row::PLACES;
 
-// Each task in turn: W1 and W2, and a runnable one is in the set of those that stand in rows.
+// Each task in turn: W1 and W2, and a runnable one is in the set of those that stand in rows, on an online CPU that it is allowed.
 pub fn columns_fit(
     n: usize,
     full: u32,
+    online: u64,
     state: &[u8],
     policy: &[u8],
     prio: &[u8],
@@ -27,7 +28,7 @@ pub fn columns_fit(
     requires { ⌜ n ≤ cpuPlaces ⌝ }
     requires { ⌜ (length (now state) ≡ taskPlaces) × (length (now policy) ≡ taskPlaces) × (length (now prio) ≡ taskPlaces) ⌝ }
     requires { ⌜ (length (now cpu) ≡ taskPlaces) × (length (now slice) ≡ taskPlaces) × (length (now mask) ≡ taskPlaces) ⌝ }
-    ensures { λ b. ⌜ Says b (Columns n full (old state) (old policy) (old prio) (old cpu) (old slice) (old mask) (old marks)) ⌝ }
+    ensures { λ b. ⌜ Says b (Columns n full online (old state) (old policy) (old prio) (old cpu) (old slice) (old mask) (old marks)) ⌝ }
 {
     let mut t = 0;
     while t < PLACES {
@@ -36,6 +37,7 @@ pub fn columns_fit(
             placed,
             n,
             full,
+            online,
             state[t],
             policy[t],
             prio[t],
@@ -55,6 +57,7 @@ fn task_fits(
     placed: bool,
     n: usize,
     full: u32,
+    online: u64,
     state: u8,
     policy: u8,
     prio: u8,
@@ -63,7 +66,7 @@ fn task_fits(
     mask: u64,
 ) -> bool
     requires { ⌜ n ≤ cpuPlaces ⌝ }
-    ensures { λ b. ⌜ b ≡ soundWhen placed n full (task state policy prio cpu slice mask) ⌝ }
+    ensures { λ b. ⌜ b ≡ soundWhen placed n full online (task state policy prio cpu slice mask) ⌝ }
 {
     if state == task::FREE {
         return (policy == 0) & (prio == 0) & (cpu == 0) & (slice == 0) & (mask == 0);
@@ -72,7 +75,7 @@ fn task_fits(
         return false;
     }
     (state == task::ASLEEP)
-        | ((state == task::RUNNABLE) & placed & bits::test_bit(mask, cpu as usize))
+        | ((state == task::RUNNABLE) & placed & bits::test_bit(mask & online, cpu as usize))
 }
 
 // W2 of one task.

@@ -20,7 +20,7 @@ module _ (c : tie.Start) where
   abbrev tables : Tables
   tables =
       let x = c .args in
-      nowTables (x .full) (x .state) (x .policy) (x .prio) (x .cpu) (x .slice) (x .mask) (x .rows) (x .counts) (x .flags) (x .log)
+      nowTables (x .full) (x .state) (x .policy) (x .prio) (x .cpu) (x .slice) (x .mask) (x .rows) (x .counts) (x .flags) (x .online) (x .log)
 
 returns : tie.Need-returns
 returns c =

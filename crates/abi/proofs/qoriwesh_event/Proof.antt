@@ -23,7 +23,7 @@ module _ (c : tie.Start) where
   abbrev tables : Tables
   tables =
       let x = c .args in
-      nowTables (x .full) (x .state) (x .policy) (x .prio) (x .cpu) (x .slice) (x .mask) (x .rows) (x .counts) (x .flags) (x .log)
+      nowTables (x .full) (x .state) (x .policy) (x .prio) (x .cpu) (x .slice) (x .mask) (x .rows) (x .counts) (x .flags) (x .online) (x .log)
 
   abbrev asked : Event
   asked = let x = c .args in event (x .kind) (x .who) (x .a) (x .b) (x .k)
@@ -36,7 +36,7 @@ module _ (c : tie.After-write) where
   abbrev left-tables : Tables
   left-tables =
       let o = at.after-write c .event-last in
-      lent (at.after-write c .args .full) (o .state) (o .policy) (o .prio) (o .cpu) (o .slice) (o .mask) (o .rows) (o .counts) (o .flags) (o .log)
+      lent (at.after-write c .args .full) (o .state) (o .policy) (o .prio) (o .cpu) (o .slice) (o .mask) (o .rows) (o .counts) (o .flags) (o .online) (o .log)
 
 returns : tie.Need-returns
 returns c =

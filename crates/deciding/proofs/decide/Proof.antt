@@ -4,8 +4,8 @@ use borrow.Author.Needs.{needs}
 use mathlib.Core.Path.{refl, ap, subst, sym}
 use Prim.Native.Nat.{ℕ, _≤_}
 use Rattle.rules.specs.Machine.{cpuPlaces}
-use Rattle.rules.specs.Events.{Event, event, kindOf, add, remove, wake, sleep, set-priority, set-affinity, tick, yield, set-ordinary}
-use Rattle.deciding.proofs.Deciding.{by-kind, unknown, unnamed, sized, named, runner}
+use Rattle.rules.specs.Events.{Event, event, kindOf, add, remove, wake, sleep, set-priority, set-affinity, tick, yield, set-ordinary, take-offline, bring-online}
+use Rattle.deciding.proofs.Deciding.{by-kind, unknown, unnamed, sized, named, runner, strands-is}
 use Rattle.deciding.proofs.decide.Statement.{statement}
 use Rattle.deciding.proofs.decide.Tie as tie
 use Rattle.deciding.proofs.decide.Proof.Paths as at
@@ -42,13 +42,19 @@ set-affinity-requires c κs =
     (few-cpus (k .start), (k .pre .0, named (k .pre .1) (k .task-at .ensures) 6 (k .match .keys6) refl))
 
 tick-requires : tie.Need-tick-requires
-tick-requires c κs = search needs
+tick-requires c κs = few-cpus (at.tick-requires c .start)
 
 yield-cpu-requires : tie.Need-yield-cpu-requires
-yield-cpu-requires c κs = search needs
+yield-cpu-requires c κs = few-cpus (at.yield-cpu-requires c .start)
 
 set-ordinary-requires : tie.Need-set-ordinary-requires
 set-ordinary-requires c κs = search needs
+
+take-offline-requires : tie.Need-take-offline-requires
+take-offline-requires c κs = few-cpus (at.take-offline-requires c .start)
+
+bring-online-requires : tie.Need-bring-online-requires
+bring-online-requires c κs = few-cpus (at.bring-online-requires c .start)
 
 returns : tie.Need-returns
 returns c =
@@ -72,7 +78,7 @@ returns-3 c =
     let k = at.returns-3 c in
     let x = k .args in
     by-kind m (asked (k .start)) wake _ (ap kindOf (k .match .keys3))
-    (k .wake .ensures m (x .kind) (x .a) (x .b) (x .k) (named l (k .task-at .ensures) 3 (k .match .keys3) refl))
+    (k .wake .ensures m (x .kind) (x .a) (x .b) (x .k) (l .online) (named l (k .task-at .ensures) 3 (k .match .keys3) refl))
 
 returns-4 : tie.Need-returns-4
 returns-4 c =
@@ -96,7 +102,7 @@ returns-6 c =
     let k = at.returns-6 c in
     let x = k .args in
     by-kind m (asked (k .start)) set-affinity _ (ap kindOf (k .match .keys6))
-    (k .set-affinity .ensures m (x .kind) (x .a) (x .b) (l .cpus) (named l (k .task-at .ensures) 6 (k .match .keys6) refl))
+    (k .set-affinity .ensures m (x .kind) (x .a) (x .b) (l .cpus) (l .online) (named l (k .task-at .ensures) 6 (k .match .keys6) refl))
 
 returns-7 : tie.Need-returns-7
 returns-7 c =
@@ -104,7 +110,7 @@ returns-7 c =
     let k = at.returns-7 c in
     let x = k .args in
     by-kind m (asked (k .start)) tick _ (ap kindOf (k .match .keys7))
-    (k .tick .ensures m (x .kind) (x .a) (x .b) (x .k) (l .cpus) (l .ticks) (runner l (k .task-at .ensures) 7 (k .match .keys7) refl))
+    (k .tick .ensures m (x .kind) (x .a) (x .b) (x .k) (l .cpus) (l .online) (l .ticks) (runner l (k .task-at .ensures) 7 (k .match .keys7) refl))
 
 returns-8 : tie.Need-returns-8
 returns-8 c =
@@ -112,7 +118,7 @@ returns-8 c =
     let k = at.returns-8 c in
     let x = k .args in
     by-kind m (asked (k .start)) yield _ (ap kindOf (k .match .keys8))
-    (k .yield-cpu .ensures m (x .kind) (x .a) (x .b) (x .k) (l .cpus) (runner l (k .task-at .ensures) 8 (k .match .keys8) refl))
+    (k .yield-cpu .ensures m (x .kind) (x .a) (x .b) (x .k) (l .cpus) (l .online) (runner l (k .task-at .ensures) 8 (k .match .keys8) refl))
 
 returns-9 : tie.Need-returns-9
 returns-9 c =
@@ -126,10 +132,26 @@ returns-10 : tie.Need-returns-10
 returns-10 c =
     λ m l.
     let k = at.returns-10 c in
+    let x = k .args in
+    by-kind m (asked (k .start)) take-offline _ (ap kindOf (k .match .keys10))
+    (k .take-offline .ensures m (x .kind) (x .a) (x .b) (x .k) (l .cpus) (l .online) (strands-is l (k .match .keys10)))
+
+returns-11 : tie.Need-returns-11
+returns-11 c =
+    λ m l.
+    let k = at.returns-11 c in
+    let x = k .args in
+    by-kind m (asked (k .start)) bring-online _ (ap kindOf (k .match .keys11))
+    (k .bring-online .ensures m (x .kind) (x .a) (x .b) (x .k) (l .cpus) (l .online))
+
+returns-12 : tie.Need-returns-12
+returns-12 c =
+    λ m l.
+    let k = at.returns-12 c in
     let r = k .match .rest in
     unknown m (asked (k .start))
-    (unnamed (k .args .kind) (r .0 .0 .0 .0 .0 .0 .0 .0 .1) (r .0 .0 .0 .0 .0 .0 .0 .1) (r .0 .0 .0 .0 .0 .0 .1) (r .0 .0 .0 .0 .0 .1)
-    (r .0 .0 .0 .0 .1) (r .0 .0 .0 .1) (r .0 .0 .1) (r .0 .1) (r .1))
+    (unnamed (k .args .kind) (r .0 .0 .0 .0 .0 .0 .0 .0 .0 .0 .1) (r .0 .0 .0 .0 .0 .0 .0 .0 .0 .1) (r .0 .0 .0 .0 .0 .0 .0 .0 .1)
+    (r .0 .0 .0 .0 .0 .0 .0 .1) (r .0 .0 .0 .0 .0 .0 .1) (r .0 .0 .0 .0 .0 .1) (r .0 .0 .0 .0 .1) (r .0 .0 .0 .1) (r .0 .0 .1) (r .0 .1) (r .1))
 
 pub decide-spec : {M : Type 1} → statement M
 decide-spec =
@@ -144,6 +166,8 @@ decide-spec =
     tick-requires
     yield-cpu-requires
     set-ordinary-requires
+    take-offline-requires
+    bring-online-requires
     returns
     returns-2
     returns-3
@@ -154,3 +178,5 @@ decide-spec =
     returns-8
     returns-9
     returns-10
+    returns-11
+    returns-12

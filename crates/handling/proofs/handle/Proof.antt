@@ -15,7 +15,7 @@ use Rattle.hinting.specs.Hinted.{Hinted}
 use Rattle.hinting.specs.Past.{Able, Standing, pastBy, hintAfter}
 use Rattle.hinting.specs.declared.past.Past.{Past}
 use Rattle.handling.proofs.Decisions.{not-refused, able}
-use Rattle.handling.proofs.Handling.{Passed, Carried, lent-rows, lent-columns, reading, carriable, stands, hints, refused-result, carries, start-settling, start-reading, start-cpus, log-long, taken-result, taken-few}
+use Rattle.handling.proofs.Handling.{Passed, Carried, lent-rows, lent-masks, lent-columns, reading, carriable, stands, hints, refused-result, carries, start-settling, start-reading, start-cpus, log-long, taken-result, taken-few}
 use Rattle.handling.proofs.handle.Statement.{statement}
 use Rattle.handling.proofs.handle.Tie as tie
 use Rattle.handling.proofs.handle.Proof.Paths as at
@@ -27,7 +27,7 @@ module _ (c : tie.Start) where
   abbrev tables : Tables
   tables =
       let x = c .args in
-      nowTables (x .full) (x .state) (x .policy) (x .prio) (x .cpu) (x .slice) (x .mask) (x .rows) (x .counts) (x .flags) (x .log)
+      nowTables (x .full) (x .state) (x .policy) (x .prio) (x .cpu) (x .slice) (x .mask) (x .rows) (x .counts) (x .flags) (x .online) (x .log)
 
   abbrev levels : Record
   levels = let x = c .args in nowRecord (x .masks) (x .tallies) (x .words) (x .levels)
@@ -48,7 +48,7 @@ module _ (c : tie.After-decide) where
   right =
       let k = at.after-decide c in
       let h = passed (k .start) in
-      k .decide .ensures _ (lent-columns h (k .args .kind) (k .args .who) (k .subject .ensures _ (lent-rows h)))
+      k .decide .ensures _ (lent-columns h (k .args .kind) (k .args .who) (k .subject .ensures _ (lent-rows h)) (k .strands .ensures _ (lent-masks h)))
 
   pub placeable : let k = at.after-decide c in Able (machine (k .start)) (k .decide .result)
   placeable = let k = at.after-decide c in able (machine (k .start)) (asked (k .start)) (k .decide .result) right
@@ -60,7 +60,7 @@ module _ (c : tie.After-carry-out) where
   left =
       let k = at.after-carry-out c in
       let o = k .carry-out-last in
-      lent (k .args .full) (o .state) (o .policy) (o .prio) (o .cpu) (o .slice) (o .mask) (o .rows) (o .counts) (o .flags) (k .args .log .now)
+      lent (k .args .full) (o .state) (o .policy) (o .prio) (o .cpu) (o .slice) (o .mask) (o .rows) (o .counts) (o .flags) (o .online) (k .args .log .now)
 
   abbrev left-levels : Record
   left-levels = let o = at.after-carry-out c .carry-out-last in lentRecord (o .masks) (o .tallies) (o .words) (o .levels)
@@ -103,11 +103,14 @@ module _ (c : tie.After-hint) where
 subject-requires : tie.Need-subject-requires
 subject-requires c κs = let s = at.subject-requires c .start in (machine s, lent-rows (passed s))
 
+strands-requires : tie.Need-strands-requires
+strands-requires c κs = let s = at.strands-requires c .start in (machine s, lent-masks (passed s))
+
 decide-requires : tie.Need-decide-requires
 decide-requires c κs =
     let k = at.decide-requires c in
     let h = passed (k .start) in
-    (machine (k .start), lent-columns h (k .args .kind) (k .args .who) (k .subject .ensures _ (lent-rows h)))
+    (machine (k .start), lent-columns h (k .args .kind) (k .args .who) (k .subject .ensures _ (lent-rows h)) (k .strands .ensures _ (lent-masks h)))
 
 enum-known-decision : tie.Need-enum-known-decision
 enum-known-decision c = search needs
@@ -153,4 +156,4 @@ returns-2 c =
 
 pub handle-spec : {M : Type 1} → statement M
 handle-spec =
-    at.close subject-requires decide-requires enum-known-decision returns remember-requires carry-out-requires hint-requires settle-requires cast returns-2
+    at.close subject-requires strands-requires decide-requires enum-known-decision returns remember-requires carry-out-requires hint-requires settle-requires cast returns-2

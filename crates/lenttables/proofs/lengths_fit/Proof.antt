@@ -7,7 +7,7 @@ mod Paths
 
 returns : tie.Need-returns
 unfolding sizesFit
-returns c = at.returns c .sizes-fit .ensures
+returns c = λ online. at.returns c .sizes-fit .ensures
 
 pub lengths-fit-spec : {M : Type 1} → statement M
 lengths-fit-spec = at.close returns

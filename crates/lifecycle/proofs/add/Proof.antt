@@ -15,7 +15,8 @@ use Rattle.rules.specs.Events.{event, added}
 use Rattle.rules.specs.Plan.{rewrite}
 use Rattle.laws.proofs.Checks.{between, one-of, mask-good}
 use Rattle.plans.proofs.Answers.{fails-here, passes-here, none-left, tested, tested-mask}
-use Rattle.plans.proofs.Plans.{replaced, is-in, not-in, state-other, rewritten, lowest-allowed}
+use Rattle.plans.proofs.Plans.{replaced, is-in, not-in, state-other, rewritten}
+use Rattle.laws.proofs.Online.{lowest-cpu}
 use Rattle.lifecycle.proofs.add.Statement.{statement}
 use Rattle.lifecycle.proofs.add.Tie as tie
 use Rattle.lifecycle.proofs.add.Proof.Paths as at
@@ -105,7 +106,7 @@ returns-6 c =
     let x = k .args in
     let fits = tested-mask (x .k) n (k .mask-fits .ensures) (k .if5 .left) in
     let good = mask-good (x .k) (m .n) (not-false _ fits) in
-    let cpu = k .lowest-bit .ensures ∙ lowest-allowed m (x .k) (l .formed .shape .cpus) (good .0) (good .1) in (
+    let cpu = k .lowest-bit .ensures ∙ lowest-cpu (m .n) (x .k) (l .formed .shape .cpus) (good .0) (good .1) in (
       passes-here _ _ _ 0 (lt-leb taskPlaces (x .who) (k .if1 .left))
           (passes-here _ _ _ 0 (ap not (is-in l free (k .if2 .left)))
           (passes-here _ _ _ 0 (tested (k .is-policy .ensures) (k .if3 .left))

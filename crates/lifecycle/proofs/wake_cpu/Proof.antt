@@ -11,7 +11,7 @@ test-bit-requires : tie.Need-test-bit-requires
 test-bit-requires c κs = search needs
 
 returns : tie.Need-returns
-returns c = let a = c .before .before .args in sym (ap (λ (b : Bool). cond b (a .cpu) (lowest cpuPlaces (a .mask))) (sym (c .before .test-bit .ensures) ∙ c .if1 .taken))
+returns c = let a = c .before .before .args in sym (ap (λ (b : Bool). cond b (a .cpu) (lowest cpuPlaces (a .up))) (sym (c .before .test-bit .ensures) ∙ c .if1 .taken))
 
 lowest-bit-requires : tie.Need-lowest-bit-requires
 lowest-bit-requires c κs = search needs
@@ -20,7 +20,7 @@ cast-result : tie.Need-cast-result
 cast-result c = search needs
 
 returns-2 : tie.Need-returns-2
-returns-2 c = let a = c .before .before .before .args in c .lowest-bit .ensures ∙ sym (ap (λ (b : Bool). cond b (a .cpu) (lowest cpuPlaces (a .mask))) (sym (c .before .before .test-bit .ensures) ∙ c .before .if1 .left))
+returns-2 c = let a = c .before .before .before .args in c .lowest-bit .ensures ∙ sym (ap (λ (b : Bool). cond b (a .cpu) (lowest cpuPlaces (a .up))) (sym (c .before .before .test-bit .ensures) ∙ c .before .if1 .left))
 
 pub wake-cpu-spec : {M : Type 1} → statement M
 wake-cpu-spec =

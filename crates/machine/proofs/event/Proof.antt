@@ -20,7 +20,7 @@ module _ (c : tie.Start) where
   abbrev tables : Tables
   tables =
       let x = c .args in
-      nowTables (x .full) (x .state) (x .policy) (x .prio) (x .cpu) (x .slice) (x .mask) (x .rows) (x .counts) (x .flags) (x .log)
+      nowTables (x .full) (x .state) (x .policy) (x .prio) (x .cpu) (x .slice) (x .mask) (x .rows) (x .counts) (x .flags) (x .online) (x .log)
 
   abbrev asked : Event
   asked = let x = c .args in event (x .kind) (x .who) (x .a) (x .b) (x .k)
@@ -52,7 +52,7 @@ returns-2 c =
     let h = k .handle in
     let o = k .handle-last in
     let r = lentRecord (o .masks) (o .tallies) (o .words) (o .levels) in
-    let t = lent (k .args .full) (o .state) (o .policy) (o .prio) (o .cpu) (o .slice) (o .mask) (o .rows) (o .counts) (o .flags) (o .log) in
+    let t = lent (k .args .full) (o .state) (o .policy) (o .prio) (o .cpu) (o .slice) (o .mask) (o .rows) (o .counts) (o .flags) (o .online) (o .log) in
     let s = k .start in (
       h .ensures .0,
       (

@@ -10,14 +10,13 @@ use lib.ListN.{length, getD, set}
 use Rattle.cpupri.specs.Level.{known}
 use Rattle.cpupri.specs.Record.{recordOf}
 use Rattle.levels.specs.declared.record.Record.{Record}
-use Rattle.levels.proofs.Whole.{level-known}
-use Rattle.rules.specs.Machine.{Machine, row, prioOf, flag, levels, levelOf, rowLevel, enqueue, queued, taskPlaces, highestPriority}
+use Rattle.rules.specs.Machine.{Machine, row, prioOf, idleLevel, levels, levelOf, rowLevel, enqueue, queued, taskPlaces, highestPriority}
 use Rattle.laws.proofs.Lists.{length-insert}
 use Rattle.laws.proofs.Rows.{row-same}
 use Rattle.runqueue.specs.Table.{rowAt}
 use Rattle.runqueue.proofs.Flat.{rows-fit}
 use Rattle.placement.specs.Held.{Held, Entering}
-use Rattle.placement.proofs.Levels.{row-level-known}
+use Rattle.placement.proofs.Levels.{row-level-known, idle-known}
 use Rattle.placement.proofs.Order.{holds, read-row, whole, cpus-counted, levels-set, above, level-first, first-in}
 use Rattle.placement.proofs.Joining.{can-enter, has-entered}
 use Rattle.placement.proofs.enter.Statement.{statement}
@@ -49,16 +48,16 @@ module _ {ps ks flat : List ℕ} {r : Record} {t c : ℕ} (m : Machine) (l : Ent
 
     module _ {v : ℕ} (e : v ≡ levelOf (getD ps (getD flat′ (c * taskPlaces) 0) 0)) where
       -- the level that was worked out is the CPU's
-      level-is : v ≡ rowLevel (prioOf m) (flag m c) joined
+      level-is : v ≡ rowLevel (prioOf m) (idleLevel m c) joined
       level-is =
-          e ∙ level-first ks′ flat′ (holds entered ps ks′ flat′ r′ h) c here (λ (u : ℕ). getD ps u 0) (flag m c) some
-          ∙ ap (λ (qs : List ℕ). rowLevel (λ (u : ℕ). getD qs u 0) (flag m c) (rowAt ks′ flat′ c)) (l .held .prio)
-          ∙ ap (rowLevel (prioOf m) (flag m c)) new-row
+          e ∙ level-first ks′ flat′ (holds entered ps ks′ flat′ r′ h) c here (λ (u : ℕ). getD ps u 0) (idleLevel m c) some
+          ∙ ap (λ (qs : List ℕ). rowLevel (λ (u : ℕ). getD qs u 0) (idleLevel m c) (rowAt ks′ flat′ c)) (l .held .prio)
+          ∙ ap (rowLevel (prioOf m) (idleLevel m c)) new-row
 
       level-ok : known v ≡ true
       level-ok =
-          subst (λ (x : ℕ). known x ≡ true) (sym (level-is ∙ ap (rowLevel (prioOf m) (flag m c)) (sym (row-same m c joined (omega (arith, l .held .order .rows, l .cpu))))))
-          (level-known _ (row-level-known (prioOf m) (flag m c) (row entered c) (l .held .order .flags c (l .cpu)) (h .order .high c)))
+          subst (λ (x : ℕ). known x ≡ true) (sym (level-is ∙ ap (rowLevel (prioOf m) (idleLevel m c)) (sym (row-same m c joined (omega (arith, l .held .order .rows, l .cpu))))))
+          (row-level-known (prioOf m) (idleLevel m c) (row entered c) (idle-known m c (l .held .order .flags c (l .cpu))) (h .order .high c))
 
       levels-after : set (r .levels) c v ≡ levels (enqueue t c m)
       levels-after = levels-set m ps ks flat r c joined (l .held) (l .cpu) v level-is

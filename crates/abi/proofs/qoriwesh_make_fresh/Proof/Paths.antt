@@ -30,8 +30,8 @@ else1 c = let b = after-lengths-fit (c .before) in record { args = b .args; star
 abbrev pub after-read : (c : tie.After-read) → let b = else1 (c .before .before .before .before .before) in record { args : typeOf (b .args); start : typeOf (b .start); lengths-fit : typeOf (b .lengths-fit); if1 : typeOf (b .if1); read : typeOf (c .read) }
 after-read c = let b = else1 (c .before .before .before .before .before) in record { args = b .args; start = b .start; lengths-fit = b .lengths-fit; if1 = b .if1; read = c .read }
 
-abbrev pub after-make-fresh : (c : tie.After-make-fresh) → let b = after-read (c .before .before .before .before .before .before .before .before .before .before .before) in record { args : typeOf (b .args); start : typeOf (b .start); lengths-fit : typeOf (b .lengths-fit); if1 : typeOf (b .if1); read : typeOf (b .read); make-fresh : typeOf (c .make-fresh); make-fresh-last : record { state : List ℕ; policy : List ℕ; prio : List ℕ; cpu : List ℕ; slice : List ℕ; mask : List ℕ; rows : List ℕ; counts : List ℕ; flags : List ℕ; log : List ℕ } }
-after-make-fresh c = let b = after-read (c .before .before .before .before .before .before .before .before .before .before .before) in record { args = b .args; start = b .start; lengths-fit = b .lengths-fit; if1 = b .if1; read = b .read; make-fresh = c .make-fresh; make-fresh-last = record { state = c .make-fresh .last .1 .1 .0; policy = c .make-fresh .last .1 .1 .1 .0; prio = c .make-fresh .last .1 .1 .1 .1 .0; cpu = c .make-fresh .last .1 .1 .1 .1 .1 .0; slice = c .make-fresh .last .1 .1 .1 .1 .1 .1 .0; mask = c .make-fresh .last .1 .1 .1 .1 .1 .1 .1 .0; rows = c .make-fresh .last .1 .1 .1 .1 .1 .1 .1 .1 .0; counts = c .make-fresh .last .1 .1 .1 .1 .1 .1 .1 .1 .1 .0; flags = c .make-fresh .last .1 .1 .1 .1 .1 .1 .1 .1 .1 .1 .0; log = c .make-fresh .last .1 .1 .1 .1 .1 .1 .1 .1 .1 .1 .1 .0 } }
+abbrev pub after-make-fresh : (c : tie.After-make-fresh) → let b = after-read (c .before .before .before .before .before .before .before .before .before .before .before .before) in record { args : typeOf (b .args); start : typeOf (b .start); lengths-fit : typeOf (b .lengths-fit); if1 : typeOf (b .if1); read : typeOf (b .read); make-fresh : typeOf (c .make-fresh); make-fresh-last : record { state : List ℕ; policy : List ℕ; prio : List ℕ; cpu : List ℕ; slice : List ℕ; mask : List ℕ; rows : List ℕ; counts : List ℕ; flags : List ℕ; online : ℕ; log : List ℕ } }
+after-make-fresh c = let b = after-read (c .before .before .before .before .before .before .before .before .before .before .before .before) in record { args = b .args; start = b .start; lengths-fit = b .lengths-fit; if1 = b .if1; read = b .read; make-fresh = c .make-fresh; make-fresh-last = record { state = c .make-fresh .last .1 .1 .0; policy = c .make-fresh .last .1 .1 .1 .0; prio = c .make-fresh .last .1 .1 .1 .1 .0; cpu = c .make-fresh .last .1 .1 .1 .1 .1 .0; slice = c .make-fresh .last .1 .1 .1 .1 .1 .1 .0; mask = c .make-fresh .last .1 .1 .1 .1 .1 .1 .1 .0; rows = c .make-fresh .last .1 .1 .1 .1 .1 .1 .1 .1 .0; counts = c .make-fresh .last .1 .1 .1 .1 .1 .1 .1 .1 .1 .0; flags = c .make-fresh .last .1 .1 .1 .1 .1 .1 .1 .1 .1 .1 .0; online = c .make-fresh .last .1 .1 .1 .1 .1 .1 .1 .1 .1 .1 .1 .0; log = c .make-fresh .last .1 .1 .1 .1 .1 .1 .1 .1 .1 .1 .1 .1 .0 } }
 
 abbrev pub after-write : (c : tie.After-write) → let b = after-make-fresh (c .before .before .before .before .before .before .before .before .before .before .before .before .before .before .before .before .before .before .before .before .before .before .before .before .before) in record { args : typeOf (b .args); start : typeOf (b .start); lengths-fit : typeOf (b .lengths-fit); if1 : typeOf (b .if1); read : typeOf (b .read); make-fresh : typeOf (b .make-fresh); make-fresh-last : typeOf (b .make-fresh-last); write : typeOf (c .write); write-last : record { masks : List ℕ; counts : List ℕ; words : List ℕ; levels : List ℕ }; after-write : tie.After-write }
 after-write c = let b = after-make-fresh (c .before .before .before .before .before .before .before .before .before .before .before .before .before .before .before .before .before .before .before .before .before .before .before .before .before) in record { args = b .args; start = b .start; lengths-fit = b .lengths-fit; if1 = b .if1; read = b .read; make-fresh = b .make-fresh; make-fresh-last = b .make-fresh-last; write = c .write; write-last = record { masks = c .write .last .1 .0; counts = c .write .last .1 .1 .0; words = c .write .last .1 .1 .1 .0; levels = c .write .last .1 .1 .1 .1 .0 }; after-write = c }
@@ -66,7 +66,7 @@ close a0 a1 a2 a3 =
     (λ c. returns-2 c .make-fresh .kept .1 .1 .1 .1 .1 .1 .1 .1 .0)
     (λ c. returns-2 c .make-fresh .kept .1 .1 .1 .1 .1 .1 .1 .1 .1 .0)
     (λ c. returns-2 c .make-fresh .kept .1 .1 .1 .1 .1 .1 .1 .1 .1 .1 .0)
-    (λ c. returns-2 c .make-fresh .kept .1 .1 .1 .1 .1 .1 .1 .1 .1 .1 .1 .0)
+    (λ c. returns-2 c .make-fresh .kept .1 .1 .1 .1 .1 .1 .1 .1 .1 .1 .1 .1 .0)
     (λ c. returns-2 c .write .kept .1 .0)
     (λ c. returns-2 c .write .kept .1 .1 .0)
     (λ c. returns-2 c .write .kept .1 .1 .1 .0)

@@ -17,19 +17,19 @@ module _ (c : tie.Start) where
   abbrev tables : Tables
   tables =
       let x = c .args in
-      nowTables (x .full) (x .state) (x .policy) (x .prio) (x .cpu) (x .slice) (x .mask) (x .rows) (x .counts) (x .flags) (x .log)
+      nowTables (x .full) (x .state) (x .policy) (x .prio) (x .cpu) (x .slice) (x .mask) (x .rows) (x .counts) (x .flags) (x .online) (x .log)
 
 returns : tie.Need-returns
 returns c =
     let k = at.returns c in
     let f = k .lengths-fit in
-    sym (checked-size (k .args .n) (k .args .«record») (tables (k .start)) (sym (f .ensures) ∙ not-true (f .result) (k .if1 .taken)))
+    sym (checked-size (k .args .n) (k .args .«record») (tables (k .start)) (sym (f .ensures (k .args .online .now)) ∙ not-true (f .result) (k .if1 .taken)))
 
 tables-fit-requires : tie.Need-tables-fit-requires
 tables-fit-requires c κs =
     let k = at.tables-fit-requires c in
     let f = k .lengths-fit in
-    let l = lengths-shape (k .args .n) (tables (k .start)) (sym (f .ensures) ∙ not-false (f .result) (k .if1 .left)) in
+    let l = lengths-shape (k .args .n) (tables (k .start)) (sym (f .ensures (k .args .online .now)) ∙ not-false (f .result) (k .if1 .left)) in
     (l .0, (l .1, l .2))
 
 returns-2 : tie.Need-returns-2
@@ -38,7 +38,7 @@ returns-2 c =
     let f = k .lengths-fit in
     let g = k .tables-fit in
     sym
-    (checked-form (k .args .n) (k .args .«record») (tables (k .start)) (sym (f .ensures) ∙ not-false (f .result) (k .if1 .left)) false
+    (checked-form (k .args .n) (k .args .«record») (tables (k .start)) (sym (f .ensures (k .args .online .now)) ∙ not-false (f .result) (k .if1 .left)) false
     (sym (g .ensures) ∙ not-true (g .result) (k .if2 .taken)))
 
 returns-3 : tie.Need-returns-3
@@ -47,7 +47,7 @@ returns-3 c =
     let f = k .lengths-fit in
     let g = k .tables-fit in
     sym
-    (checked-form (k .args .n) (k .args .«record») (tables (k .start)) (sym (f .ensures) ∙ not-false (f .result) (k .if1 .left)) true
+    (checked-form (k .args .n) (k .args .«record») (tables (k .start)) (sym (f .ensures (k .args .online .now)) ∙ not-false (f .result) (k .if1 .left)) true
     (sym (g .ensures) ∙ not-false (g .result) (k .if2 .left)))
 
 pub check-spec : {M : Type 1} → statement M

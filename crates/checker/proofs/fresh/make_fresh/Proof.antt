@@ -16,7 +16,7 @@ module _ (c : tie.Start) where
   abbrev tables : Tables
   tables =
       let x = c .args in
-      nowTables (x .full) (x .state) (x .policy) (x .prio) (x .cpu) (x .slice) (x .mask) (x .rows) (x .counts) (x .flags) (x .log)
+      nowTables (x .full) (x .state) (x .policy) (x .prio) (x .cpu) (x .slice) (x .mask) (x .rows) (x .counts) (x .flags) (x .online) (x .log)
 
 returns : tie.Need-returns
 unfolding sizesFit
@@ -24,6 +24,14 @@ returns c =
     let k = at.returns c in
     let f = k .sizes-fit in
     (sym (made-refused (k .args .n) (k .args .«record») (tables (k .start)) (sym (f .ensures) ∙ not-true (f .result) (k .if1 .taken))), refl)
+
+all-below-requires : tie.Need-all-below-requires
+unfolding sizesFit
+all-below-requires c κs =
+    let k = at.all-below-requires c in
+    let f = k .sizes-fit in
+    let s = lengths-shape (k .args .n) (tables (k .start)) (sym (f .ensures) ∙ not-false (f .result) (k .if1 .left)) .0 in
+    (s .some-cpu, s .cpus)
 
 fresh-requires : tie.Need-fresh-requires
 unfolding sizesFit
@@ -42,7 +50,7 @@ returns-2 c =
     let tasks = k .free-tasks .ensures in
     let rows = k .empty-rows .ensures in (
       made-blank (k .args .n) (k .args .«record») (k .fresh .result) (tables (k .start))
-          (lent (k .args .full) (t .state) (t .policy) (t .prio) (t .cpu) (t .slice) (t .mask) (r .rows) (r .counts) (r .flags) (r .log))
+          (lent (k .args .full) (t .state) (t .policy) (t .prio) (t .cpu) (t .slice) (t .mask) (r .rows) (r .counts) (r .flags) (k .all-below .result) (r .log))
           (sym (f .ensures) ∙ not-false (f .result) (k .if1 .left))
           (record {
             full = refl;
@@ -56,6 +64,7 @@ returns-2 c =
             counts = rows .1 .0;
             flags = rows .1 .1 .0;
             log = rows .1 .1 .1;
+            online = k .all-below .ensures;
           })
           (k .fresh .ensures),
       refl,
@@ -63,4 +72,4 @@ returns-2 c =
 
 pub make-fresh-spec : {M : Type 1} → statement M
 make-fresh-spec =
-    at.close returns fresh-requires returns-2
+    at.close returns all-below-requires fresh-requires returns-2

@@ -66,6 +66,18 @@ at-match-keys9 c = let b = after-task-at (c .before) in record { args = b .args;
 abbrev pub after-set-ordinary : (c : tie.After-set-ordinary) → let b = at-match-keys9 (c .before) in record { args : typeOf (b .args); start : typeOf (b .start); match : typeOf (b .match); set-ordinary : typeOf (c .set-ordinary) }
 after-set-ordinary c = let b = at-match-keys9 (c .before) in record { args = b .args; start = b .start; match = b .match; set-ordinary = c .set-ordinary }
 
+abbrev pub at-match-keys10 : (c : tie.At-match-keys10) → let b = after-task-at (c .before) in record { args : typeOf (b .args); start : typeOf (b .start); match : typeOf (c .match) }
+at-match-keys10 c = let b = after-task-at (c .before) in record { args = b .args; start = b .start; match = c .match }
+
+abbrev pub after-take-offline : (c : tie.After-take-offline) → let b = at-match-keys10 (c .before) in record { args : typeOf (b .args); start : typeOf (b .start); match : typeOf (b .match); take-offline : typeOf (c .take-offline) }
+after-take-offline c = let b = at-match-keys10 (c .before) in record { args = b .args; start = b .start; match = b .match; take-offline = c .take-offline }
+
+abbrev pub at-match-keys11 : (c : tie.At-match-keys11) → let b = after-task-at (c .before) in record { args : typeOf (b .args); start : typeOf (b .start); match : typeOf (c .match) }
+at-match-keys11 c = let b = after-task-at (c .before) in record { args = b .args; start = b .start; match = c .match }
+
+abbrev pub after-bring-online : (c : tie.After-bring-online) → let b = at-match-keys11 (c .before) in record { args : typeOf (b .args); start : typeOf (b .start); match : typeOf (b .match); bring-online : typeOf (c .bring-online) }
+after-bring-online c = let b = at-match-keys11 (c .before) in record { args = b .args; start = b .start; match = b .match; bring-online = c .bring-online }
+
 abbrev pub at-match-rest : (c : tie.At-match-rest) → let b = after-task-at (c .before) in record { args : typeOf (b .args); start : typeOf (b .start); match : typeOf (c .match) }
 at-match-rest c = let b = after-task-at (c .before) in record { args = b .args; start = b .start; match = c .match }
 
@@ -80,6 +92,18 @@ wake-requires c = at-match-keys3 c
 
 abbrev pub set-affinity-requires : (c : tie.At-match-keys6) → typeOf (at-match-keys6 c)
 set-affinity-requires c = at-match-keys6 c
+
+abbrev pub tick-requires : (c : tie.At-match-keys7) → typeOf (at-match-keys7 c)
+tick-requires c = at-match-keys7 c
+
+abbrev pub yield-cpu-requires : (c : tie.At-match-keys8) → typeOf (at-match-keys8 c)
+yield-cpu-requires c = at-match-keys8 c
+
+abbrev pub take-offline-requires : (c : tie.At-match-keys10) → typeOf (at-match-keys10 c)
+take-offline-requires c = at-match-keys10 c
+
+abbrev pub bring-online-requires : (c : tie.At-match-keys11) → typeOf (at-match-keys11 c)
+bring-online-requires c = at-match-keys11 c
 
 abbrev pub returns : (c : tie.After-add) → typeOf (after-add c)
 returns c = after-add c
@@ -108,11 +132,17 @@ returns-8 c = after-yield-cpu c
 abbrev pub returns-9 : (c : tie.After-set-ordinary) → typeOf (after-set-ordinary c)
 returns-9 c = after-set-ordinary c
 
-abbrev pub returns-10 : (c : tie.At-match-rest) → typeOf (at-match-rest c)
-returns-10 c = at-match-rest c
+abbrev pub returns-10 : (c : tie.After-take-offline) → typeOf (after-take-offline c)
+returns-10 c = after-take-offline c
 
-pub close : {M : Type 1} → tie.Need-task-at-requires → tie.Need-add-requires → tie.Need-remove-requires → tie.Need-wake-requires → tie.Need-sleep-requires → tie.Need-set-priority-requires → tie.Need-set-affinity-requires → tie.Need-tick-requires → tie.Need-yield-cpu-requires → tie.Need-set-ordinary-requires → tie.Need-returns → tie.Need-returns-2 → tie.Need-returns-3 → tie.Need-returns-4 → tie.Need-returns-5 → tie.Need-returns-6 → tie.Need-returns-7 → tie.Need-returns-8 → tie.Need-returns-9 → tie.Need-returns-10 → statement M
-close a0 a1 a2 a3 a4 a5 a6 a7 a8 a9 a10 a11 a12 a13 a14 a15 a16 a17 a18 a19 =
+abbrev pub returns-11 : (c : tie.After-bring-online) → typeOf (after-bring-online c)
+returns-11 c = after-bring-online c
+
+abbrev pub returns-12 : (c : tie.At-match-rest) → typeOf (at-match-rest c)
+returns-12 c = at-match-rest c
+
+pub close : {M : Type 1} → tie.Need-task-at-requires → tie.Need-add-requires → tie.Need-remove-requires → tie.Need-wake-requires → tie.Need-sleep-requires → tie.Need-set-priority-requires → tie.Need-set-affinity-requires → tie.Need-tick-requires → tie.Need-yield-cpu-requires → tie.Need-set-ordinary-requires → tie.Need-take-offline-requires → tie.Need-bring-online-requires → tie.Need-returns → tie.Need-returns-2 → tie.Need-returns-3 → tie.Need-returns-4 → tie.Need-returns-5 → tie.Need-returns-6 → tie.Need-returns-7 → tie.Need-returns-8 → tie.Need-returns-9 → tie.Need-returns-10 → tie.Need-returns-11 → tie.Need-returns-12 → statement M
+close a0 a1 a2 a3 a4 a5 a6 a7 a8 a9 a10 a11 a12 a13 a14 a15 a16 a17 a18 a19 a20 a21 a22 a23 =
     tie.close
     (tie.spec
     a0
@@ -134,4 +164,8 @@ close a0 a1 a2 a3 a4 a5 a6 a7 a8 a9 a10 a11 a12 a13 a14 a15 a16 a17 a18 a19 =
     a16
     a17
     a18
-    a19)
+    a19
+    a20
+    a21
+    a22
+    a23)

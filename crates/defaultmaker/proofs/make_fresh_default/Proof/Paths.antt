@@ -30,5 +30,5 @@ close a0 =
     (λ c. returns c .make-fresh .kept .1 .1 .1 .1 .1 .1 .1 .1 .0)
     (λ c. returns c .make-fresh .kept .1 .1 .1 .1 .1 .1 .1 .1 .1 .0)
     (λ c. returns c .make-fresh .kept .1 .1 .1 .1 .1 .1 .1 .1 .1 .1 .0)
-    (λ c. returns c .make-fresh .kept .1 .1 .1 .1 .1 .1 .1 .1 .1 .1 .1 .0)
+    (λ c. returns c .make-fresh .kept .1 .1 .1 .1 .1 .1 .1 .1 .1 .1 .1 .1 .0)
     a0)

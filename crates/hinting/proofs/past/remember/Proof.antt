@@ -28,6 +28,12 @@ enum-told-2 c = search needs
 enum-told-3 : tie.Need-enum-told-3
 enum-told-3 c = search needs
 
+enum-told-4 : tie.Need-enum-told-4
+enum-told-4 c = search needs
+
+enum-told-5 : tie.Need-enum-told-5
+enum-told-5 c = search needs
+
 returns-2 : tie.Need-returns-2
 returns-2 c = λ m r. let k = at.returns-2 c in k .standing .ensures m r ∙ decided-past m (k .args .decision) _ (k .args .settled) (k .if1 .left) (k .decision .given .1)
 
@@ -40,6 +46,13 @@ returns-4 c = λ m r. let k = at.returns-4 c in decided-past m (k .args .decisio
 returns-5 : tie.Need-returns-5
 returns-5 c = λ m r. let k = at.returns-5 c in decided-past m (k .args .decision) _ (k .args .settled) (k .if1 .left) (k .enum-told3 .given .1)
 
+returns-6 : tie.Need-returns-6
+returns-6 c = λ m r. let k = at.returns-6 c in decided-past m (k .args .decision) _ (k .args .settled) (k .if1 .left) (k .enum-told4 .given .1)
+
+returns-7 : tie.Need-returns-7
+returns-7 c = λ m r. let k = at.returns-7 c in decided-past m (k .args .decision) _ (k .args .settled) (k .if1 .left) (k .enum-told5 .given .1)
+
 pub remember-spec : {M : Type 1} → statement M
 remember-spec =
-    at.close returns enum-known-decision standing-requires enum-told enum-told-2 enum-told-3 returns-2 returns-3 returns-4 returns-5
+    at.close returns enum-known-decision standing-requires enum-told enum-told-2 enum-told-3 enum-told-4 enum-told-5 returns-2 returns-3 returns-4 returns-5
+    returns-6 returns-7

@@ -21,11 +21,17 @@ then2 c = let b = else1 (c .before .before) in record { args = b .args; if1 = b 
 abbrev pub else2 : (c : tie.Else2) → let b = else1 (c .before .before) in record { args : typeOf (b .args); pre : typeOf (b .pre); if1 : typeOf (b .if1); if2 : typeOf (c .if2) }
 else2 c = let b = else1 (c .before .before) in record { args = b .args; pre = b .pre; if1 = b .if1; if2 = c .if2 }
 
-abbrev pub after-wake-cpu : (c : tie.After-wake-cpu) → let b = else2 (c .before .before) in record { args : typeOf (b .args); if1 : typeOf (b .if1); if2 : typeOf (b .if2); wake-cpu : typeOf (c .wake-cpu) }
-after-wake-cpu c = let b = else2 (c .before .before) in record { args = b .args; if1 = b .if1; if2 = b .if2; wake-cpu = c .wake-cpu }
+abbrev pub then3 : (c : tie.Then3) → let b = else2 (c .before .before) in record { args : typeOf (b .args); if1 : typeOf (b .if1); if2 : typeOf (b .if2); if3 : typeOf (c .if3) }
+then3 c = let b = else2 (c .before .before) in record { args = b .args; if1 = b .if1; if2 = b .if2; if3 = c .if3 }
 
-abbrev pub after-enter : (c : tie.After-enter) → let b = after-wake-cpu (c .before) in record { args : typeOf (b .args); if1 : typeOf (b .if1); if2 : typeOf (b .if2); wake-cpu : typeOf (b .wake-cpu); enter : typeOf (c .enter) }
-after-enter c = let b = after-wake-cpu (c .before) in record { args = b .args; if1 = b .if1; if2 = b .if2; wake-cpu = b .wake-cpu; enter = c .enter }
+abbrev pub else3 : (c : tie.Else3) → let b = else2 (c .before .before) in record { args : typeOf (b .args); pre : typeOf (b .pre); if1 : typeOf (b .if1); if2 : typeOf (b .if2); if3 : typeOf (c .if3) }
+else3 c = let b = else2 (c .before .before) in record { args = b .args; pre = b .pre; if1 = b .if1; if2 = b .if2; if3 = c .if3 }
+
+abbrev pub after-wake-cpu : (c : tie.After-wake-cpu) → let b = else3 (c .before .before) in record { args : typeOf (b .args); if1 : typeOf (b .if1); if2 : typeOf (b .if2); if3 : typeOf (b .if3); wake-cpu : typeOf (c .wake-cpu) }
+after-wake-cpu c = let b = else3 (c .before .before) in record { args = b .args; if1 = b .if1; if2 = b .if2; if3 = b .if3; wake-cpu = c .wake-cpu }
+
+abbrev pub after-enter : (c : tie.After-enter) → let b = after-wake-cpu (c .before) in record { args : typeOf (b .args); if1 : typeOf (b .if1); if2 : typeOf (b .if2); if3 : typeOf (b .if3); wake-cpu : typeOf (b .wake-cpu); enter : typeOf (c .enter) }
+after-enter c = let b = after-wake-cpu (c .before) in record { args = b .args; if1 = b .if1; if2 = b .if2; if3 = b .if3; wake-cpu = b .wake-cpu; enter = c .enter }
 
 abbrev pub returns : (c : tie.Then1) → typeOf (then1 c)
 returns c = then1 c
@@ -33,14 +39,17 @@ returns c = then1 c
 abbrev pub returns-2 : (c : tie.Then2) → typeOf (then2 c)
 returns-2 c = then2 c
 
-abbrev pub wake-cpu-requires : (c : tie.After-struct-known2) → typeOf (else2 (c .before))
-wake-cpu-requires c = else2 (c .before)
+abbrev pub returns-3 : (c : tie.Then3) → typeOf (then3 c)
+returns-3 c = then3 c
 
-abbrev pub returns-3 : (c : tie.After-enter) → typeOf (after-enter c)
-returns-3 c = after-enter c
+abbrev pub wake-cpu-requires : (c : tie.After-struct-known3) → typeOf (else3 (c .before))
+wake-cpu-requires c = else3 (c .before)
 
-pub close : {M : Type 1} → tie.Need-returns → tie.Need-returns-2 → tie.Need-cast-wake-cpu → tie.Need-wake-cpu-requires → tie.Need-cast-enter → tie.Need-enter-requires → tie.Need-returns-3 → statement M
-close a0 a1 a2 a3 a4 a5 a6 =
+abbrev pub returns-4 : (c : tie.After-enter) → typeOf (after-enter c)
+returns-4 c = after-enter c
+
+pub close : {M : Type 1} → tie.Need-returns → tie.Need-returns-2 → tie.Need-returns-3 → tie.Need-cast-wake-cpu → tie.Need-wake-cpu-requires → tie.Need-cast-enter → tie.Need-enter-requires → tie.Need-returns-4 → statement M
+close a0 a1 a2 a3 a4 a5 a6 a7 =
     tie.close
     (tie.spec
     a0
@@ -49,4 +58,5 @@ close a0 a1 a2 a3 a4 a5 a6 =
     a3
     a4
     a5
-    a6)
+    a6
+    a7)

@@ -12,8 +12,8 @@ typeOf {A} x = A
 abbrev pub start : (c : tie.Start) → record { args : typeOf (c .args); start : tie.Start }
 start c = record { args = c .args; start = c }
 
-abbrev pub after-check : (c : tie.After-check) → let b = start (c .before .before .before .before .before .before .before .before .before .before .before .before .before .before .before .before .before .before .before .before .before) in record { args : typeOf (b .args); start : typeOf (b .start); check : typeOf (c .check) }
-after-check c = let b = start (c .before .before .before .before .before .before .before .before .before .before .before .before .before .before .before .before .before .before .before .before .before) in record { args = b .args; start = b .start; check = c .check }
+abbrev pub after-check : (c : tie.After-check) → let b = start (c .before .before .before .before .before .before .before .before .before .before .before .before .before .before .before .before .before .before .before .before .before .before) in record { args : typeOf (b .args); start : typeOf (b .start); check : typeOf (c .check) }
+after-check c = let b = start (c .before .before .before .before .before .before .before .before .before .before .before .before .before .before .before .before .before .before .before .before .before .before) in record { args = b .args; start = b .start; check = c .check }
 
 abbrev pub then1 : (c : tie.Then1) → let b = after-check (c .before) in record { args : typeOf (b .args); start : typeOf (b .start); check : typeOf (b .check); if1 : typeOf (c .if1) }
 then1 c = let b = after-check (c .before) in record { args = b .args; start = b .start; check = b .check; if1 = c .if1 }
@@ -21,17 +21,17 @@ then1 c = let b = after-check (c .before) in record { args = b .args; start = b 
 abbrev pub else1 : (c : tie.Else1) → let b = after-check (c .before) in record { args : typeOf (b .args); start : typeOf (b .start); check : typeOf (b .check); if1 : typeOf (c .if1) }
 else1 c = let b = after-check (c .before) in record { args = b .args; start = b .start; check = b .check; if1 = c .if1 }
 
-abbrev pub after-handle : (c : tie.After-handle) → let b = else1 (c .before .before .before .before .before .before .before .before .before .before .before .before .before .before .before .before .before .before .before) in record { args : typeOf (b .args); start : typeOf (b .start); handle : typeOf (c .handle); handle-last : record { state : List ℕ; policy : List ℕ; prio : List ℕ; cpu : List ℕ; slice : List ℕ; mask : List ℕ; rows : List ℕ; counts : List ℕ; flags : List ℕ; log : List ℕ; masks : List ℕ; tallies : List ℕ; words : List ℕ; levels : List ℕ } }
-after-handle c = let b = else1 (c .before .before .before .before .before .before .before .before .before .before .before .before .before .before .before .before .before .before .before) in record { args = b .args; start = b .start; handle = c .handle; handle-last = record { state = c .handle .last .1 .1 .0; policy = c .handle .last .1 .1 .1 .0; prio = c .handle .last .1 .1 .1 .1 .0; cpu = c .handle .last .1 .1 .1 .1 .1 .0; slice = c .handle .last .1 .1 .1 .1 .1 .1 .0; mask = c .handle .last .1 .1 .1 .1 .1 .1 .1 .0; rows = c .handle .last .1 .1 .1 .1 .1 .1 .1 .1 .0; counts = c .handle .last .1 .1 .1 .1 .1 .1 .1 .1 .1 .0; flags = c .handle .last .1 .1 .1 .1 .1 .1 .1 .1 .1 .1 .0; log = c .handle .last .1 .1 .1 .1 .1 .1 .1 .1 .1 .1 .1 .0; masks = c .handle .last .1 .1 .1 .1 .1 .1 .1 .1 .1 .1 .1 .1 .0; tallies = c .handle .last .1 .1 .1 .1 .1 .1 .1 .1 .1 .1 .1 .1 .1 .0; words = c .handle .last .1 .1 .1 .1 .1 .1 .1 .1 .1 .1 .1 .1 .1 .1 .0; levels = c .handle .last .1 .1 .1 .1 .1 .1 .1 .1 .1 .1 .1 .1 .1 .1 .1 .0 } }
+abbrev pub after-handle : (c : tie.After-handle) → let b = else1 (c .before .before .before .before .before .before .before .before .before .before .before .before .before .before .before .before .before .before .before .before) in record { args : typeOf (b .args); start : typeOf (b .start); handle : typeOf (c .handle); handle-last : record { state : List ℕ; policy : List ℕ; prio : List ℕ; cpu : List ℕ; slice : List ℕ; mask : List ℕ; rows : List ℕ; counts : List ℕ; flags : List ℕ; online : ℕ; log : List ℕ; masks : List ℕ; tallies : List ℕ; words : List ℕ; levels : List ℕ } }
+after-handle c = let b = else1 (c .before .before .before .before .before .before .before .before .before .before .before .before .before .before .before .before .before .before .before .before) in record { args = b .args; start = b .start; handle = c .handle; handle-last = record { state = c .handle .last .1 .1 .0; policy = c .handle .last .1 .1 .1 .0; prio = c .handle .last .1 .1 .1 .1 .0; cpu = c .handle .last .1 .1 .1 .1 .1 .0; slice = c .handle .last .1 .1 .1 .1 .1 .1 .0; mask = c .handle .last .1 .1 .1 .1 .1 .1 .1 .0; rows = c .handle .last .1 .1 .1 .1 .1 .1 .1 .1 .0; counts = c .handle .last .1 .1 .1 .1 .1 .1 .1 .1 .1 .0; flags = c .handle .last .1 .1 .1 .1 .1 .1 .1 .1 .1 .1 .0; online = c .handle .last .1 .1 .1 .1 .1 .1 .1 .1 .1 .1 .1 .0; log = c .handle .last .1 .1 .1 .1 .1 .1 .1 .1 .1 .1 .1 .1 .0; masks = c .handle .last .1 .1 .1 .1 .1 .1 .1 .1 .1 .1 .1 .1 .1 .0; tallies = c .handle .last .1 .1 .1 .1 .1 .1 .1 .1 .1 .1 .1 .1 .1 .1 .0; words = c .handle .last .1 .1 .1 .1 .1 .1 .1 .1 .1 .1 .1 .1 .1 .1 .1 .0; levels = c .handle .last .1 .1 .1 .1 .1 .1 .1 .1 .1 .1 .1 .1 .1 .1 .1 .1 .0 } }
 
 abbrev pub returns : (c : tie.Then1) → typeOf (then1 c)
 returns c = then1 c
 
-abbrev pub cast-handle : (c : tie.After-levels2) → typeOf (else1 (c .before .before .before .before .before .before .before .before .before .before .before .before .before .before .before .before .before .before))
-cast-handle c = else1 (c .before .before .before .before .before .before .before .before .before .before .before .before .before .before .before .before .before .before)
+abbrev pub cast-handle : (c : tie.After-levels2) → typeOf (else1 (c .before .before .before .before .before .before .before .before .before .before .before .before .before .before .before .before .before .before .before))
+cast-handle c = else1 (c .before .before .before .before .before .before .before .before .before .before .before .before .before .before .before .before .before .before .before)
 
-abbrev pub handle-requires : (c : tie.After-levels2) → typeOf (else1 (c .before .before .before .before .before .before .before .before .before .before .before .before .before .before .before .before .before .before))
-handle-requires c = else1 (c .before .before .before .before .before .before .before .before .before .before .before .before .before .before .before .before .before .before)
+abbrev pub handle-requires : (c : tie.After-levels2) → typeOf (else1 (c .before .before .before .before .before .before .before .before .before .before .before .before .before .before .before .before .before .before .before))
+handle-requires c = else1 (c .before .before .before .before .before .before .before .before .before .before .before .before .before .before .before .before .before .before .before)
 
 abbrev pub returns-2 : (c : tie.After-slice-known20) → typeOf (after-handle (c .before .before .before .before .before .before .before .before .before .before .before .before .before .before .before .before .before .before .before .before))
 returns-2 c = after-handle (c .before .before .before .before .before .before .before .before .before .before .before .before .before .before .before .before .before .before .before .before)
@@ -63,5 +63,5 @@ close a0 a1 a2 a3 a4 =
     (λ c. returns-2 c .handle .kept .1 .1 .1 .1 .1 .1 .1 .1 .0)
     (λ c. returns-2 c .handle .kept .1 .1 .1 .1 .1 .1 .1 .1 .1 .0)
     (λ c. returns-2 c .handle .kept .1 .1 .1 .1 .1 .1 .1 .1 .1 .1 .0)
-    (λ c. returns-2 c .handle .kept .1 .1 .1 .1 .1 .1 .1 .1 .1 .1 .1 .0)
+    (λ c. returns-2 c .handle .kept .1 .1 .1 .1 .1 .1 .1 .1 .1 .1 .1 .1 .0)
     a4)

@@ -24,9 +24,9 @@ first c = c .before .before .before .pre .1 0 (omega arith)
 returns : tie.Need-returns
 returns c =
     let a = c .before .args in
-    let e : rowLevel (λ u. getD (a .prio .now) u 0) (a .flag) (take (a .count) (a .row .now)) ≡ a .flag =
-    ap (λ (k : ℕ). rowLevel (λ u. getD (a .prio .now) u 0) (a .flag) (take k (a .row .now))) (c .if1 .taken) in
-    say (eqb (a .level) (a .flag)) (λ t. eqb-true _ _ t ∙ sym e) (λ l. eq-eqb _ _ (l ∙ e))
+    let e : rowLevel (λ u. getD (a .prio .now) u 0) (a .idle) (take (a .count) (a .row .now)) ≡ a .idle =
+    ap (λ (k : ℕ). rowLevel (λ u. getD (a .prio .now) u 0) (a .idle) (take k (a .row .now))) (c .if1 .taken) in
+    say (eqb (a .level) (a .idle)) (λ t. eqb-true _ _ t ∙ sym e) (λ l. eq-eqb _ _ (l ∙ e))
 
 shared-slice-read-first : tie.Need-shared-slice-read-first
 shared-slice-read-first c = search needs
@@ -46,8 +46,8 @@ add-result c = omega (arith, c .shared-slice-known2 .given (getD (c .before .bef
 returns-2 : tie.Need-returns-2
 returns-2 c =
     let a = c .before .before .before .args in
-    let e : rowLevel (λ u. getD (a .prio .now) u 0) (a .flag) (take (a .count) (a .row .now)) ≡ getD (a .prio .now) (getD (a .row .now) 0 0) 0 + 2 =
-    level-first (λ u. getD (a .prio .now) u 0) (a .flag) (a .count) (a .row .now) (omega arith) (omega arith) in
+    let e : rowLevel (λ u. getD (a .prio .now) u 0) (a .idle) (take (a .count) (a .row .now)) ≡ getD (a .prio .now) (getD (a .row .now) 0 0) 0 + 2 =
+    level-first (λ u. getD (a .prio .now) u 0) (a .idle) (a .count) (a .row .now) (omega arith) (omega arith) in
     say (eqb (a .level) (getD (a .prio .now) (getD (a .row .now) 0 0) 0 + 2)) (λ t. eqb-true _ _ t ∙ sym e) (λ l. eq-eqb _ _ (l ∙ e))
 
 pub level-fits-spec : {M : Type 1} → statement M

@@ -33,7 +33,7 @@ same-length-9 : tie.Need-same-length-9
 same-length-9 c = at.same-length-9 c .make-fresh .kept .1 .1 .1 .1 .1 .1 .1 .1 .1 .1 .0
 
 same-length-10 : tie.Need-same-length-10
-same-length-10 c = at.same-length-10 c .make-fresh .kept .1 .1 .1 .1 .1 .1 .1 .1 .1 .1 .1 .0
+same-length-10 c = at.same-length-10 c .make-fresh .kept .1 .1 .1 .1 .1 .1 .1 .1 .1 .1 .1 .1 .0
 
 returns : tie.Need-returns
 returns c = search needs
@@ -66,7 +66,7 @@ same-length-19 : tie.Need-same-length-19
 same-length-19 c = at.same-length-19 c .make-fresh-default .kept .1 .1 .1 .1 .1 .1 .1 .1 .1 .0
 
 same-length-20 : tie.Need-same-length-20
-same-length-20 c = at.same-length-20 c .make-fresh-default .kept .1 .1 .1 .1 .1 .1 .1 .1 .1 .1 .0
+same-length-20 c = at.same-length-20 c .make-fresh-default .kept .1 .1 .1 .1 .1 .1 .1 .1 .1 .1 .1 .0
 
 returns-2 : tie.Need-returns-2
 returns-2 c = search needs

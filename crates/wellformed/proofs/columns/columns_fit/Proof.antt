@@ -17,11 +17,11 @@ none : {k : ℕ} → k < 0 → ⊥
 none h = omega arith
 
 abbrev Inv-loop : tie.InvT-loop
-Inv-loop n full state policy prio cpu slice mask marks t₀ t =
-    (t ≤ 512) × ((k : ℕ) → k < t → soundWhen (marked marks k) n full (taskAt state policy prio cpu slice mask k) ≡ true)
+Inv-loop n full online state policy prio cpu slice mask marks t₀ t =
+    (t ≤ 512) × ((k : ℕ) → k < t → soundWhen (marked marks k) n full online (taskAt state policy prio cpu slice mask k) ≡ true)
 
 abbrev μ-loop : tie.MeasureT-loop
-μ-loop n full state policy prio cpu slice mask marks t₀ t = 512 - t
+μ-loop n full online state policy prio cpu slice mask marks t₀ t = 512 - t
 
 -- ---- the task that is looked at
 
@@ -30,7 +30,7 @@ module _ (c : tie.After-task-fits Inv-loop μ-loop) where
   sound placed =
       let k = at.after-task-fits c in
       let a = k .args in
-      soundWhen placed (a .n) (a .full) (taskAt (a .state .now) (a .policy .now) (a .prio .now) (a .cpu .now) (a .slice .now) (a .mask .now) (k .loop .t))
+      soundWhen placed (a .n) (a .full) (a .online) (taskAt (a .state .now) (a .policy .now) (a .prio .now) (a .cpu .now) (a .slice .now) (a .mask .now) (k .loop .t))
 
   tested : let k = at.after-task-fits c in sound (marked (k .args .marks .now) (k .loop .t)) ≡ k .task-fits .result
   tested = let k = at.after-task-fits c in ap sound (sym (k .has .ensures)) ∙ sym (k .task-fits .ensures)

@@ -5,6 +5,7 @@ use mathlib.Core.Bool.{Bool, true, _&&_, _||_}
 use native.Mathlib.Omega.{arith}
 use borrow.Author.Tests.{not-true, not-false}
 use lib.Dec.{eqb}
+use Rattle.bits.proofs.Word.{bit-and}
 use Rattle.rules.specs.Machine.{Task}
 use Rattle.rules.specs.WellFormed.{fits}
 use Rattle.wellformed.specs.Passes.{task, rangesFit}
@@ -23,7 +24,7 @@ unfolding rangesFit
 ranged c = let k = at.else2 c in sym (k .in-range .ensures) ∙ not-false (k .in-range .result) (k .if2 .left)
 
 returns : tie.Need-returns
-returns c = let k = at.returns c in sym (sound-free (k .args .placed) (k .args .n) (k .args .full) (given (k .start)) (k .if1 .taken))
+returns c = let k = at.returns c in sym (sound-free (k .args .placed) (k .args .n) (k .args .full) (k .args .online) (given (k .start)) (k .if1 .taken))
 
 in-range-requires : tie.Need-in-range-requires
 in-range-requires c κs = search needs
@@ -33,7 +34,7 @@ unfolding rangesFit
 returns-2 c =
     let k = at.returns-2 c in
     let out = sym (k .in-range .ensures) ∙ not-true (k .in-range .result) (k .if2 .taken) in
-    sym (sound-out (k .args .placed) (k .args .n) (k .args .full) (given (k .start)) (k .if1 .left) out)
+    sym (sound-out (k .args .placed) (k .args .n) (k .args .full) (k .args .online) (given (k .start)) (k .if1 .left) out)
 
 test-bit-requires : tie.Need-test-bit-requires
 test-bit-requires c κs =
@@ -45,8 +46,8 @@ returns-3 : tie.Need-returns-3
 returns-3 c =
     let k = at.returns-3 c in
     let a = k .args in
-    ap (λ (b : Bool). eqb (a .state) 1 || (eqb (a .state) 2 && a .placed && b)) (k .test-bit .ensures)
-    ∙ sym (sound-in (a .placed) (a .n) (a .full) (given (k .start)) (k .if1 .left) (ranged (k .else2)))
+    ap (λ (b : Bool). eqb (a .state) 1 || (eqb (a .state) 2 && a .placed && b)) (k .test-bit .ensures ∙ bit-and (a .mask) (a .online) (a .cpu))
+    ∙ sym (sound-in (a .placed) (a .n) (a .full) (a .online) (given (k .start)) (k .if1 .left) (ranged (k .else2)))
 
 pub task-fits-spec : {M : Type 1} → statement M
 task-fits-spec = at.close returns in-range-requires returns-2 test-bit-requires returns-3

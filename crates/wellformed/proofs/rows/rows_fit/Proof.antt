@@ -1,7 +1,9 @@
 -- `wellformed::rows::rows_fit` meets its contract. The loop's invariant: the rows passed are right, and the set has the tasks that stand in
 -- them. Assumes nothing.
 use mathlib.Core.Path.{_≡_, refl, sym, ap, _∙_, subst}
-use mathlib.Core.Bool.{true}
+use mathlib.Core.Bool.{true, cond}
+use Rattle.bits.specs.Bit.{bit}
+use Rattle.rules.specs.Machine.{invalid}
 use Prim.Native.Nat.{ℕ, _+_, _-_, _*_, _≤_, _<_}
 use lib.ListN.{length, getD, drop}
 use mathlib.Core.List.{List}
@@ -27,13 +29,16 @@ part-long : (rows : List ℕ) (n c : ℕ) → length rows ≡ 512 * n → c < n 
 part-long rows n c e h = length-take-le 512 (drop (512 * c) rows) (simp length-drop (omega arith))
 
 abbrev Inv-loop : tie.InvT-loop
-Inv-loop n state prio cpu rows counts flags levels marks₀ c₀ marks c =
+Inv-loop n state prio cpu rows counts flags online levels marks₀ c₀ marks c =
     (c ≤ n) × (length marks ≡ 8) ×
-    ((k : ℕ) → k < c → Row state prio cpu (part rows k) k (getD counts k 0) (getD flags k 0) (getD levels k 0)) ×
+    ((k : ℕ) → k < c → Row state prio cpu (part rows k) k (getD counts k 0) (getD flags k 0) (cond (bit online k) (getD flags k 0) invalid) (getD levels k 0)) ×
     ((u : ℕ) → mark marks u ≡ standings counts rows c u)
 
 abbrev μ-loop : tie.MeasureT-loop
-μ-loop n state prio cpu rows counts flags levels marks₀ c₀ marks c = n - c
+μ-loop n state prio cpu rows counts flags online levels marks₀ c₀ marks c = n - c
+
+within : (c : tie.In-loop Inv-loop μ-loop) → let k = at.in-loop c in k .loop .c < k .args .n
+within c = omega arith
 
 -- ---- the row that is looked at
 
@@ -44,7 +49,23 @@ module _ (c : tie.After-row-fits Inv-loop μ-loop) where
       let k = at.after-row-fits c in
       let a = k .args in
       let i = k .loop .c in
-      Row (a .state .now) (a .prio .now) (a .cpu .now) r i (getD (a .counts .now) i 0) (getD (a .flags .now) i 0) (getD (a .t8) i 0)
+      Row (a .state .now) (a .prio .now) (a .cpu .now) r i (getD (a .counts .now) i 0) (getD (a .flags .now) i 0) (k .idle-level .result) (getD (a .t9) i 0)
+
+  -- the level that its CPU has without a task
+  abbrev Is-right : List ℕ → Type 0
+  Is-right r =
+      let k = at.after-row-fits c in
+      let a = k .args in
+      let i = k .loop .c in
+      Row (a .state .now) (a .prio .now) (a .cpu .now) r i (getD (a .counts .now) i 0) (getD (a .flags .now) i 0) (cond (bit (a .online) i) (getD (a .flags .now) i 0) invalid) (getD (a .t9) i 0)
+
+  by-idle : (r : List ℕ) → (Right r → Is-right r) × (Is-right r → Right r)
+  by-idle r =
+      let k = at.after-row-fits c in
+      let a = k .args in
+      let i = k .loop .c in
+      let P : ℕ → Type 0 = λ x. Row (a .state .now) (a .prio .now) (a .cpu .now) r i (getD (a .counts .now) i 0) (getD (a .flags .now) i 0) x (getD (a .t9) i 0) in
+      (subst P (k .idle-level .ensures), subst P (sym (k .idle-level .ensures)))
 
 -- ---- the needs
 
@@ -70,6 +91,12 @@ part-row-start c = omega (arith, at.part-row-start c .pre)
 
 part-row-end : tie.Need-part-row-end Inv-loop μ-loop
 part-row-end c = omega (arith, at.part-row-end c .pre)
+
+shared-slice-read-idle-level : tie.Need-shared-slice-read-idle-level Inv-loop μ-loop
+shared-slice-read-idle-level c = let k = at.shared-slice-read-idle-level c in omega (arith, k .pre)
+
+idle-level-requires : tie.Need-idle-level-requires Inv-loop μ-loop
+idle-level-requires c κs = let k = at.idle-level-requires c in omega (arith, k .pre)
 
 mul-row-fits : tie.Need-mul-row-fits Inv-loop μ-loop
 mul-row-fits c = omega (arith, at.mul-row-fits c .pre)
@@ -102,9 +129,9 @@ returns c =
     let call = k .row-fits in (
       λ p.
           no (call .result) (call .ensures .0) (not-true (call .result) (k .if1 .taken)) (
-            subst (Right (k .after-row-fits)) (sym (part-is rows (l .c))) (p .row (l .c) (omega arith)),
+            by-idle (k .after-row-fits) _ .1 (subst (Is-right (k .after-row-fits)) (sym (part-is rows (l .c))) (p .row (l .c) (within (k .in-loop)))),
             subst (λ (r : List ℕ). Once (l .marks) r (getD counts (l .c) 0)) (sym (part-is rows (l .c)))
-                (λ u. omega (arith, l .inv .3 u, standings-next counts rows u (l .c), standings-grows counts rows u (l .c + 1) (k .args .n) (omega arith), p .once u)),
+                (λ u. omega (arith, l .inv .3 u, standings-next counts rows u (l .c), standings-grows counts rows u (l .c + 1) (k .args .n) (omega (arith, within (k .in-loop))), p .once u)),
           ),
       λ e. never e,
     )
@@ -125,9 +152,9 @@ loop-again c =
     let ok : call .result ≡ true = not-false (call .result) (k .if1 .left) in
     let good = yes (call .result) (call .ensures .0) ok in
     let joined = subst (λ (r : List ℕ). Marks (l .marks) r (getD counts (l .c) 0) (k .row-fits-last .marks)) (part-is rows (l .c)) (call .ensures .1 ok) in (
-      omega arith,
+      omega (arith, within (k .in-loop)),
       joined .0,
-      below-more _ _ (l .inv .2) (subst (Right (k .after-row-fits)) (part-is rows (l .c)) (good .0)),
+      below-more _ _ (l .inv .2) (subst (Is-right (k .after-row-fits)) (part-is rows (l .c)) (by-idle (k .after-row-fits) _ .0 (good .0))),
       λ u. omega (arith, joined .1 u, l .inv .3 u, standings-next counts rows u (l .c)),
     )
 
@@ -156,6 +183,8 @@ rows-fit-spec =
     sub-row
     part-row-start
     part-row-end
+    shared-slice-read-idle-level
+    idle-level-requires
     mul-row-fits
     shared-slice-read-row-fits
     shared-slice-read-row-fits-2

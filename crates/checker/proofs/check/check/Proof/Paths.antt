@@ -22,8 +22,8 @@ then1 c = let b = after-lengths-fit (c .before) in record { args = b .args; star
 abbrev pub else1 : (c : tie.Else1) → let b = after-lengths-fit (c .before) in record { args : typeOf (b .args); start : typeOf (b .start); lengths-fit : typeOf (b .lengths-fit); if1 : typeOf (c .if1) }
 else1 c = let b = after-lengths-fit (c .before) in record { args = b .args; start = b .start; lengths-fit = b .lengths-fit; if1 = c .if1 }
 
-abbrev pub after-tables-fit : (c : tie.After-tables-fit) → let b = else1 (c .before) in record { args : typeOf (b .args); start : typeOf (b .start); lengths-fit : typeOf (b .lengths-fit); if1 : typeOf (b .if1); tables-fit : typeOf (c .tables-fit) }
-after-tables-fit c = let b = else1 (c .before) in record { args = b .args; start = b .start; lengths-fit = b .lengths-fit; if1 = b .if1; tables-fit = c .tables-fit }
+abbrev pub after-tables-fit : (c : tie.After-tables-fit) → let b = else1 (c .before .before) in record { args : typeOf (b .args); start : typeOf (b .start); lengths-fit : typeOf (b .lengths-fit); if1 : typeOf (b .if1); tables-fit : typeOf (c .tables-fit) }
+after-tables-fit c = let b = else1 (c .before .before) in record { args = b .args; start = b .start; lengths-fit = b .lengths-fit; if1 = b .if1; tables-fit = c .tables-fit }
 
 abbrev pub then2 : (c : tie.Then2) → let b = after-tables-fit (c .before) in record { args : typeOf (b .args); start : typeOf (b .start); lengths-fit : typeOf (b .lengths-fit); if1 : typeOf (b .if1); tables-fit : typeOf (b .tables-fit); if2 : typeOf (c .if2) }
 then2 c = let b = after-tables-fit (c .before) in record { args = b .args; start = b .start; lengths-fit = b .lengths-fit; if1 = b .if1; tables-fit = b .tables-fit; if2 = c .if2 }
@@ -34,8 +34,8 @@ else2 c = let b = after-tables-fit (c .before) in record { args = b .args; start
 abbrev pub returns : (c : tie.Then1) → typeOf (then1 c)
 returns c = then1 c
 
-abbrev pub tables-fit-requires : (c : tie.Else1) → typeOf (else1 c)
-tables-fit-requires c = else1 c
+abbrev pub tables-fit-requires : (c : tie.After-row-known) → typeOf (else1 (c .before))
+tables-fit-requires c = else1 (c .before)
 
 abbrev pub returns-2 : (c : tie.Then2) → typeOf (then2 c)
 returns-2 c = then2 c

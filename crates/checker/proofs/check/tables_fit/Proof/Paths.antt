@@ -24,21 +24,28 @@ after-is-consistent c = let b = else1 (c .before .before .before .before .before
 abbrev pub after-columns-fit : (c : tie.After-columns-fit) → let b = after-is-consistent (c .before .before) in record { args : typeOf (b .args); pre : typeOf (b .pre); start : typeOf (b .start); rows-fit : typeOf (b .rows-fit); if1 : typeOf (b .if1); is-consistent : typeOf (b .is-consistent); columns-fit : typeOf (c .columns-fit) }
 after-columns-fit c = let b = after-is-consistent (c .before .before) in record { args = b .args; pre = b .pre; start = b .start; rows-fit = b .rows-fit; if1 = b .if1; is-consistent = b .is-consistent; columns-fit = c .columns-fit }
 
+abbrev pub after-mask-fits : (c : tie.After-mask-fits) → let b = after-columns-fit (c .before) in record { args : typeOf (b .args); pre : typeOf (b .pre); start : typeOf (b .start); rows-fit : typeOf (b .rows-fit); if1 : typeOf (b .if1); is-consistent : typeOf (b .is-consistent); columns-fit : typeOf (b .columns-fit); mask-fits : typeOf (c .mask-fits) }
+after-mask-fits c = let b = after-columns-fit (c .before) in record { args = b .args; pre = b .pre; start = b .start; rows-fit = b .rows-fit; if1 = b .if1; is-consistent = b .is-consistent; columns-fit = b .columns-fit; mask-fits = c .mask-fits }
+
 abbrev pub returns : (c : tie.Then1) → typeOf (then1 c)
 returns c = then1 c
 
 abbrev pub is-consistent-requires : (c : tie.After-is-consistent-arg4) → typeOf (else1 (c .before .before .before .before .before .before))
 is-consistent-requires c = else1 (c .before .before .before .before .before .before)
 
-abbrev pub returns-2 : (c : tie.After-columns-fit) → typeOf (after-columns-fit c)
-returns-2 c = after-columns-fit c
+abbrev pub mask-fits-requires : (c : tie.After-columns-fit) → typeOf (after-columns-fit c)
+mask-fits-requires c = after-columns-fit c
 
-pub close : {M : Type 1} → tie.Need-rows-fit-requires → tie.Need-returns → tie.Need-is-consistent-requires → tie.Need-columns-fit-requires → tie.Need-returns-2 → statement M
-close a0 a1 a2 a3 a4 =
+abbrev pub returns-2 : (c : tie.After-mask-fits) → typeOf (after-mask-fits c)
+returns-2 c = after-mask-fits c
+
+pub close : {M : Type 1} → tie.Need-rows-fit-requires → tie.Need-returns → tie.Need-is-consistent-requires → tie.Need-columns-fit-requires → tie.Need-mask-fits-requires → tie.Need-returns-2 → statement M
+close a0 a1 a2 a3 a4 a5 =
     tie.close
     (tie.spec
     a0
     a1
     a2
     a3
-    a4)
+    a4
+    a5)

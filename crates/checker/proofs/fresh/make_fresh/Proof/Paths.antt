@@ -36,20 +36,26 @@ after-free-tasks c = let b = else1 (c .before .before .before .before .before .b
 abbrev pub after-empty-rows : (c : tie.After-empty-rows) → let b = after-free-tasks (c .before .before .before .before .before .before .before .before .before .before .before .before .before .before .before .before .before) in record { args : typeOf (b .args); start : typeOf (b .start); sizes-fit : typeOf (b .sizes-fit); if1 : typeOf (b .if1); free-tasks : typeOf (b .free-tasks); free-tasks-last : typeOf (b .free-tasks-last); empty-rows : typeOf (c .empty-rows); empty-rows-last : record { rows : List ℕ; counts : List ℕ; flags : List ℕ; log : List ℕ } }
 after-empty-rows c = let b = after-free-tasks (c .before .before .before .before .before .before .before .before .before .before .before .before .before .before .before .before .before) in record { args = b .args; start = b .start; sizes-fit = b .sizes-fit; if1 = b .if1; free-tasks = b .free-tasks; free-tasks-last = b .free-tasks-last; empty-rows = c .empty-rows; empty-rows-last = record { rows = c .empty-rows .last .0; counts = c .empty-rows .last .1 .0; flags = c .empty-rows .last .1 .1 .0; log = c .empty-rows .last .1 .1 .1 .0 } }
 
-abbrev pub after-fresh : (c : tie.After-fresh) → let b = after-empty-rows (c .before .before .before .before .before .before .before .before .before) in record { args : typeOf (b .args); start : typeOf (b .start); sizes-fit : typeOf (b .sizes-fit); if1 : typeOf (b .if1); free-tasks : typeOf (b .free-tasks); free-tasks-last : typeOf (b .free-tasks-last); empty-rows : typeOf (b .empty-rows); empty-rows-last : typeOf (b .empty-rows-last); fresh : typeOf (c .fresh) }
-after-fresh c = let b = after-empty-rows (c .before .before .before .before .before .before .before .before .before) in record { args = b .args; start = b .start; sizes-fit = b .sizes-fit; if1 = b .if1; free-tasks = b .free-tasks; free-tasks-last = b .free-tasks-last; empty-rows = b .empty-rows; empty-rows-last = b .empty-rows-last; fresh = c .fresh }
+abbrev pub after-all-below : (c : tie.After-all-below) → let b = after-empty-rows (c .before .before .before .before .before .before .before .before .before) in record { args : typeOf (b .args); start : typeOf (b .start); sizes-fit : typeOf (b .sizes-fit); if1 : typeOf (b .if1); free-tasks : typeOf (b .free-tasks); free-tasks-last : typeOf (b .free-tasks-last); empty-rows : typeOf (b .empty-rows); empty-rows-last : typeOf (b .empty-rows-last); all-below : typeOf (c .all-below) }
+after-all-below c = let b = after-empty-rows (c .before .before .before .before .before .before .before .before .before) in record { args = b .args; start = b .start; sizes-fit = b .sizes-fit; if1 = b .if1; free-tasks = b .free-tasks; free-tasks-last = b .free-tasks-last; empty-rows = b .empty-rows; empty-rows-last = b .empty-rows-last; all-below = c .all-below }
+
+abbrev pub after-fresh : (c : tie.After-fresh) → let b = after-all-below (c .before) in record { args : typeOf (b .args); start : typeOf (b .start); sizes-fit : typeOf (b .sizes-fit); if1 : typeOf (b .if1); free-tasks : typeOf (b .free-tasks); free-tasks-last : typeOf (b .free-tasks-last); empty-rows : typeOf (b .empty-rows); empty-rows-last : typeOf (b .empty-rows-last); all-below : typeOf (b .all-below); fresh : typeOf (c .fresh) }
+after-fresh c = let b = after-all-below (c .before) in record { args = b .args; start = b .start; sizes-fit = b .sizes-fit; if1 = b .if1; free-tasks = b .free-tasks; free-tasks-last = b .free-tasks-last; empty-rows = b .empty-rows; empty-rows-last = b .empty-rows-last; all-below = b .all-below; fresh = c .fresh }
 
 abbrev pub returns : (c : tie.Then1) → typeOf (then1 c)
 returns c = then1 c
 
-abbrev pub fresh-requires : (c : tie.After-slice-known20) → typeOf (after-empty-rows (c .before .before .before .before .before .before .before .before))
-fresh-requires c = after-empty-rows (c .before .before .before .before .before .before .before .before)
+abbrev pub all-below-requires : (c : tie.After-slice-known20) → typeOf (after-empty-rows (c .before .before .before .before .before .before .before .before))
+all-below-requires c = after-empty-rows (c .before .before .before .before .before .before .before .before)
+
+abbrev pub fresh-requires : (c : tie.After-all-below) → typeOf (after-all-below c)
+fresh-requires c = after-all-below c
 
 abbrev pub returns-2 : (c : tie.After-fresh) → typeOf (after-fresh c)
 returns-2 c = after-fresh c
 
-pub close : {M : Type 1} → tie.Need-returns → tie.Need-fresh-requires → tie.Need-returns-2 → statement M
-close a0 a1 a2 =
+pub close : {M : Type 1} → tie.Need-returns → tie.Need-all-below-requires → tie.Need-fresh-requires → tie.Need-returns-2 → statement M
+close a0 a1 a2 a3 =
     tie.close
     (tie.spec
     sizes-fit-requires
@@ -57,6 +63,7 @@ close a0 a1 a2 =
     free-tasks-requires
     empty-rows-requires
     a1
+    a2
     (λ c. returns-2 c .free-tasks .kept .0)
     (λ c. returns-2 c .free-tasks .kept .1 .0)
     (λ c. returns-2 c .free-tasks .kept .1 .1 .0)
@@ -67,4 +74,4 @@ close a0 a1 a2 =
     (λ c. returns-2 c .empty-rows .kept .1 .0)
     (λ c. returns-2 c .empty-rows .kept .1 .1 .0)
     (λ c. returns-2 c .empty-rows .kept .1 .1 .1 .0)
-    a2)
+    a3)

@@ -42,6 +42,18 @@ at-match-keys4 c = let b = else1 (c .before) in record { args = b .args; if1 = b
 abbrev pub after-enum-told3 : (c : tie.After-enum-told3) → let b = at-match-keys4 (c .before) in record { args : typeOf (b .args); if1 : typeOf (b .if1); enum-told3 : typeOf (c .enum-told3) }
 after-enum-told3 c = let b = at-match-keys4 (c .before) in record { args = b .args; if1 = b .if1; enum-told3 = c .enum-told3 }
 
+abbrev pub at-match-keys5 : (c : tie.At-match-keys5) → let b = else1 (c .before) in record { args : typeOf (b .args); if1 : typeOf (b .if1) }
+at-match-keys5 c = let b = else1 (c .before) in record { args = b .args; if1 = b .if1 }
+
+abbrev pub after-enum-told4 : (c : tie.After-enum-told4) → let b = at-match-keys5 (c .before) in record { args : typeOf (b .args); if1 : typeOf (b .if1); enum-told4 : typeOf (c .enum-told4) }
+after-enum-told4 c = let b = at-match-keys5 (c .before) in record { args = b .args; if1 = b .if1; enum-told4 = c .enum-told4 }
+
+abbrev pub at-match-keys6 : (c : tie.At-match-keys6) → let b = else1 (c .before) in record { args : typeOf (b .args); if1 : typeOf (b .if1) }
+at-match-keys6 c = let b = else1 (c .before) in record { args = b .args; if1 = b .if1 }
+
+abbrev pub after-enum-told5 : (c : tie.After-enum-told5) → let b = at-match-keys6 (c .before) in record { args : typeOf (b .args); if1 : typeOf (b .if1); enum-told5 : typeOf (c .enum-told5) }
+after-enum-told5 c = let b = at-match-keys6 (c .before) in record { args = b .args; if1 = b .if1; enum-told5 = c .enum-told5 }
+
 abbrev pub returns : (c : tie.Then1) → typeOf (then1 c)
 returns c = then1 c
 
@@ -60,8 +72,14 @@ returns-4 c = after-enum-told2 c
 abbrev pub returns-5 : (c : tie.After-enum-told3) → typeOf (after-enum-told3 c)
 returns-5 c = after-enum-told3 c
 
-pub close : {M : Type 1} → tie.Need-returns → tie.Need-enum-known-decision → tie.Need-standing-requires → tie.Need-enum-told → tie.Need-enum-told-2 → tie.Need-enum-told-3 → tie.Need-returns-2 → tie.Need-returns-3 → tie.Need-returns-4 → tie.Need-returns-5 → statement M
-close a0 a1 a2 a3 a4 a5 a6 a7 a8 a9 =
+abbrev pub returns-6 : (c : tie.After-enum-told4) → typeOf (after-enum-told4 c)
+returns-6 c = after-enum-told4 c
+
+abbrev pub returns-7 : (c : tie.After-enum-told5) → typeOf (after-enum-told5 c)
+returns-7 c = after-enum-told5 c
+
+pub close : {M : Type 1} → tie.Need-returns → tie.Need-enum-known-decision → tie.Need-standing-requires → tie.Need-enum-told → tie.Need-enum-told-2 → tie.Need-enum-told-3 → tie.Need-enum-told-4 → tie.Need-enum-told-5 → tie.Need-returns-2 → tie.Need-returns-3 → tie.Need-returns-4 → tie.Need-returns-5 → tie.Need-returns-6 → tie.Need-returns-7 → statement M
+close a0 a1 a2 a3 a4 a5 a6 a7 a8 a9 a10 a11 a12 a13 =
     tie.close
     (tie.spec
     a0
@@ -73,4 +91,8 @@ close a0 a1 a2 a3 a4 a5 a6 a7 a8 a9 =
     a6
     a7
     a8
-    a9)
+    a9
+    a10
+    a11
+    a12
+    a13)

@@ -28,7 +28,7 @@ slice-aggregate-event-4 : tie.Need-slice-aggregate-event-4
 slice-aggregate-event-4 c = search needs
 
 slice-aggregate-event-5 : tie.Need-slice-aggregate-event-5
-slice-aggregate-event-5 c = search needs
+slice-aggregate-event-5 c = let g = at.slice-aggregate-event-5 c .start .good .0 .1 .1 .1 .1 .1 .1 .1 .1 .0 in search needs
 
 slice-aggregate-event-6 : tie.Need-slice-aggregate-event-6
 slice-aggregate-event-6 c = let g = at.slice-aggregate-event-6 c .start .good .0 .1 .1 .1 .1 .1 .1 .1 .1 .1 .0 in search needs

@@ -1,0 +1,2 @@
+-- The laws of a CPU that goes or comes back, over the lent tables.
+pub mod Leaves

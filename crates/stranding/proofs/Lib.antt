@@ -1,0 +1,2 @@
+-- The laws of looking for a task that has nowhere to go.
+pub mod Looking
