@@ -2,9 +2,9 @@
 /*
  * Document 01's marked examples K1 to K12 through include/qoriwesh.h, as C and as C++; the fourth numbers of the
  * log are those of document 02, request L2, and K11's row is that of request L3, of which there are more cases. They
- * name 100 as the full slice; request L7, by which it is a number of the machine, has cases of its own. Each line of an
- * example is an event with what it must answer; what the example says of rows, levels, log and columns is compared after
- * it. Says so and exits 0, or says what differs and exits 1.
+ * name 100 as the full slice; request L7, by which it is a number of the machine, has cases of its own, and so has request L8,
+ * by which CPUs go offline and come back. Each line of an example is an event with what it must answer; what the example says
+ * of rows, levels, log and columns is compared after it. Says so and exits 0, or says what differs and exits 1.
  */
 #include <stdio.h>
 #include <string.h>
@@ -36,6 +36,17 @@ static void unlogged(int from_entry)
 		same("a number of the log that no move wrote", m.log[i], QORIWESH_NOTHING);
 }
 
+static void plugged(uint64_t want)
+{
+	same("whether the online mask is the right one", m.online == want, 1);
+}
+
+/* The CPUs below one. */
+static uint64_t below(size_t cpus)
+{
+	return cpus < QORIWESH_CPUS ? (UINT64_C(1) << cpus) - 1 : UINT64_MAX;
+}
+
 /* What holds of each fresh machine. */
 static void made(int answer, size_t cpus, uint32_t full_slice)
 {
@@ -44,6 +55,7 @@ static void made(int answer, size_t cpus, uint32_t full_slice)
 	same("its full slice", m.full_slice, full_slice);
 	same("the fresh machine's check", qoriwesh_machine_check(&m), 0);
 	same("the check of its tables, lent by hand", qoriwesh_check(QORIWESH_LEND(&m)), 0);
+	plugged(below(cpus));
 	unlogged(0);
 }
 
@@ -107,6 +119,26 @@ static void wake(uint32_t task, int moves)
 static void prio(uint32_t task, uint32_t want, int moves)
 {
 	event(QORIWESH_PRIORITY, task, 0, want, 0, moves);
+}
+
+static void sleeps(uint32_t task)
+{
+	event(QORIWESH_SLEEP, task, 0, 0, 0, 0);
+}
+
+static void affinity(uint32_t task, uint64_t mask, int want)
+{
+	event(QORIWESH_AFFINITY, task, 0, 0, mask, want);
+}
+
+static void offline(uint32_t cpu, int want)
+{
+	event(QORIWESH_OFFLINE, cpu, 0, 0, 0, want);
+}
+
+static void online(uint32_t cpu, int want)
+{
+	event(QORIWESH_ONLINE, cpu, 0, 0, 0, want);
 }
 
 /* A CPU's row: `count` tasks in run order, and 65535 behind them. */
@@ -500,19 +532,217 @@ static void k12(void)
 	level(0, QORIWESH_LEVEL_PRIO(99));
 }
 
-/* The parameters that lend the machine's tables with another log. */
-#define TABLES_WITH(m, numbers, length) \
+/* "its tasks leave front to back, each entering the lowest-numbered allowed online CPU"; back, the highest goes to it. */
+static void leaves_and_back(void)
+{
+	fresh("offline and back", 2);
+	add(0, 50, 3);
+	add(1, 40, 3);
+	add(2, 30, 3);
+	wake(0, 0);
+	wake(1, 1);
+	wake(2, 0);
+	row2(0, 0, 2);
+	row1(1, 1);
+	offline(0, 0);
+	plugged(2);
+	row(0, 0, NULL);
+	row3(1, 0, 1, 2);
+	level(0, QORIWESH_LEVEL_INVALID);
+	level(1, 52);
+	same("task 2's CPU", m.cpu[2], 1);
+	same("the CPUs at level 52", m.level_counts[52], 1);
+	online(0, 1);
+	plugged(3);
+	logged(0, 1, 1, 0, QORIWESH_LEVEL_IDLE);
+	row1(0, 1);
+	row2(1, 0, 2);
+	fresh("offline among equals", 2);
+	add(0, 40, 3);
+	add(1, 40, 3);
+	add(2, 40, 2);
+	wake(2, 0);
+	wake(0, 0);
+	wake(1, 0);
+	offline(0, 0);
+	row3(1, 2, 0, 1);
+}
+
+/* Three masks, each with another lowest-numbered CPU beside the one that goes; then migrations that follow. */
+static void leaves_by_mask(void)
+{
+	fresh("offline by masks", 4);
+	add(10, 90, 1);
+	add(11, 90, 4);
+	add(12, 90, 8);
+	wake(10, 0);
+	wake(11, 0);
+	wake(12, 0);
+	add(0, 60, 10);
+	add(1, 50, 6);
+	add(2, 40, 2);
+	wake(0, 0);
+	wake(1, 0);
+	wake(2, 0);
+	affinity(2, 11, 0);
+	row3(1, 0, 1, 2);
+	offline(1, 0);
+	row2(0, 10, 2);
+	row(1, 0, NULL);
+	row2(2, 11, 1);
+	row2(3, 12, 0);
+	fresh("offline, and moves", 3);
+	add(0, 50, 3);
+	add(1, 40, 6);
+	wake(0, 0);
+	wake(1, 0);
+	offline(0, 1);
+	logged(0, 1, 1, 2, QORIWESH_LEVEL_IDLE);
+	row1(1, 0);
+	row1(2, 1);
+}
+
+/* 10, then 11, then 12; "Where 9 and 11 both fit, 11 is given." */
+static void offline_refused(void)
+{
+	fresh("refused for a CPU offline", 2);
+	add(0, 50, 3);
+	add(1, 40, 1);
+	wake(0, 0);
+	wake(1, 0);
+	offline(0, -QORIWESH_ENOWHERE);
+	plugged(3);
+	online(0, -QORIWESH_EONLINE);
+	sleeps(1);
+	offline(0, 0);
+	row1(1, 0);
+	wake(1, -QORIWESH_ENOWHERE);
+	affinity(0, 1, -QORIWESH_ENOWHERE);
+	affinity(0, 4, -QORIWESH_EMASK);
+	affinity(1, 1, 0);
+	event(QORIWESH_TICK, 0, 0, 0, 0, -QORIWESH_EONLINE);
+	event(QORIWESH_YIELD, 0, 0, 0, 0, -QORIWESH_EONLINE);
+	offline(0, -QORIWESH_EONLINE);
+	offline(1, -QORIWESH_ENOWHERE);
+	sleeps(0);
+	offline(1, -QORIWESH_ELAST);
+	event(QORIWESH_YIELD, 1, 0, 0, 0, -QORIWESH_EEMPTY);
+	offline(2, -QORIWESH_ENUMBER);
+	online(2, -QORIWESH_ENUMBER);
+	event(12, 0, 0, 0, 0, -QORIWESH_EKIND);
+	plugged(2);
+	fresh("refused for the only CPU", 1);
+	offline(0, -QORIWESH_ELAST);
+	online(0, -QORIWESH_EONLINE);
+}
+
+/* "Ordinary work on an offline CPU sets only the flag"; an add looks at the mask alone, a wake and a move at online CPUs. */
+static void while_offline(void)
+{
+	fresh("ordinary work offline", 2);
+	offline(1, 0);
+	event(QORIWESH_ORDINARY, 1, 0, 1, 0, 0);
+	same("the flag", m.flags[1], 1);
+	level(1, QORIWESH_LEVEL_INVALID);
+	online(1, 0);
+	level(1, QORIWESH_LEVEL_ORDINARY);
+	offline(1, 0);
+	same("the flag", m.flags[1], 1);
+	event(QORIWESH_ORDINARY, 1, 0, 0, 0, 0);
+	online(1, 0);
+	level(1, QORIWESH_LEVEL_IDLE);
+	fresh("placed online", 3);
+	offline(1, 0);
+	add(0, 50, 6);
+	same("the CPU of a task that was added", m.cpu[0], 1);
+	wake(0, 0);
+	same("the CPU of a task that woke", m.cpu[0], 2);
+	add(1, 60, 7);
+	add(2, 40, 3);
+	wake(1, 0);
+	wake(2, 0);
+	row2(0, 1, 2);
+	affinity(1, 6, 0);
+	row1(0, 2);
+	row2(2, 1, 0);
+}
+
+/* 64 CPUs go one after the other, until the last. */
+static void one_after_the_other(void)
+{
+	uint32_t cpu;
+
+	fresh("one after the other", QORIWESH_CPUS);
+	add(0, 50, UINT64_MAX);
+	wake(0, 0);
+	for (cpu = 0; cpu < 63; cpu++) {
+		offline(cpu, 0);
+		plugged(~below(cpu + 1));
+		row1(QORIWESH_INT(cpu) + 1, 0);
+	}
+	offline(63, -QORIWESH_ENOWHERE);
+	sleeps(0);
+	offline(63, -QORIWESH_ELAST);
+	for (cpu = 0; cpu < 63; cpu++)
+		online(cpu, 0);
+	plugged(UINT64_MAX);
+}
+
+/* The parameters that lend the machine's tables with another online mask and log. */
+#define TABLES_WITH(m, word, numbers, length) \
 	(m)->state, QORIWESH_TASKS, (m)->policy, QORIWESH_TASKS, \
 	(m)->prio, QORIWESH_TASKS, (m)->cpu, QORIWESH_TASKS, \
 	(m)->slice, QORIWESH_TASKS, (m)->mask, QORIWESH_TASKS, \
 	(m)->rows, QORIWESH_TASKS * (m)->cpus, \
 	(m)->counts, (m)->cpus, (m)->flags, (m)->cpus, \
-	(numbers), (length), \
+	(word), (numbers), (length), \
 	(m)->level_masks, QORIWESH_LEVELS, (m)->level_counts, QORIWESH_LEVELS, \
 	(m)->level_words, QORIWESH_WORDS, (m)->levels, QORIWESH_CPUS
 
 /* The same with the machine's two numbers. */
-#define LEND_WITH(m, numbers, length) (m)->cpus, (m)->full_slice, TABLES_WITH(m, numbers, length)
+#define LEND_WITH(m, word, numbers, length) (m)->cpus, (m)->full_slice, TABLES_WITH(m, word, numbers, length)
+
+/* The machine's tables with another word as its online mask. */
+#define LEND_ONLINE(m, word) LEND_WITH(m, word, (m)->log, QORIWESH_LOG)
+
+/* An event by the entry itself, with a word that is handed in and back: what it answers, and what the word is then. */
+static void raw(uint64_t word, uint32_t kind, uint32_t who, uint8_t answer, uint64_t want)
+{
+	uint32_t moves = 7;
+
+	same("the entry's answer", qoriwesh_event(LEND_ONLINE(&m, &word), kind, who, 0, 0, 0, &moves), answer);
+	same("its moves", QORIWESH_INT(moves), 0);
+	same("whether the word is the right one", word == want, 1);
+}
+
+/* "carried like the record, all N when fresh": the word in and out, also when it is refused, and in the makers. */
+static void online_words(void)
+{
+	uint64_t word = 0;
+	uint32_t made_slice = 7;
+
+	fresh("the online word", 2);
+	raw(3, QORIWESH_OFFLINE, 1, QORIWESH_OK, 1);
+	raw(1, QORIWESH_OFFLINE, 0, QORIWESH_ELAST, 1);
+	raw(1, QORIWESH_OFFLINE, 1, QORIWESH_EONLINE, 1);
+	raw(1, QORIWESH_ONLINE, 2, QORIWESH_ENUMBER, 1);
+	raw(0, QORIWESH_ONLINE, 1, QORIWESH_EFORM, 0);
+	raw(3, QORIWESH_TICK, 0, QORIWESH_EFORM, 3);
+	raw(5, QORIWESH_ONLINE, 1, QORIWESH_EFORM, 5);
+	raw(1, QORIWESH_ONLINE, 1, QORIWESH_OK, 3);
+	same("the check with no CPU online", qoriwesh_check(LEND_ONLINE(&m, &word)), QORIWESH_EFORM);
+	word = 1;
+	same("the check with an idle CPU offline", qoriwesh_check(LEND_ONLINE(&m, &word)), QORIWESH_EFORM);
+	word = UINT64_MAX;
+	same("the check with bits past N", qoriwesh_check(LEND_ONLINE(&m, &word)), QORIWESH_EFORM);
+	same("the fresh machine", qoriwesh_make_fresh(LEND_ONLINE(&m, &word), &made_slice), QORIWESH_OK);
+	same("whether both CPUs are online", word == 3, 1);
+	same("the check with them", qoriwesh_check(LEND_ONLINE(&m, &word)), QORIWESH_OK);
+	word = 0;
+	same("the default one",
+	     qoriwesh_make_fresh_default(m.cpus, TABLES_WITH(&m, &word, m.log, QORIWESH_LOG), &made_slice), QORIWESH_OK);
+	same("whether both CPUs are online", word == 3, 1);
+}
 
 /* The four entries that are lent a log, on one of another length: each is refused, and changes nothing. */
 static void log_refused(size_t length)
@@ -524,15 +754,17 @@ static void log_refused(size_t length)
 	memset(numbers, 0x5a, sizeof(numbers));
 	memcpy(kept, numbers, sizeof(numbers));
 	memcpy(&before, &m, sizeof(m));
-	same("the check with this log", qoriwesh_check(LEND_WITH(&m, numbers, length)), QORIWESH_ESIZE);
+	same("the check with this log", qoriwesh_check(LEND_WITH(&m, &m.online, numbers, length)), QORIWESH_ESIZE);
 	same("the event with this log",
-	     qoriwesh_event(LEND_WITH(&m, numbers, length), QORIWESH_SLEEP, 0, 0, 0, 0, &moves), QORIWESH_ESIZE);
+	     qoriwesh_event(LEND_WITH(&m, &m.online, numbers, length), QORIWESH_SLEEP, 0, 0, 0, 0, &moves),
+	     QORIWESH_ESIZE);
 	same("its moves", QORIWESH_INT(moves), 0);
 	same("the fresh machine with this log",
-	     qoriwesh_make_fresh(LEND_WITH(&m, numbers, length), &made_slice), QORIWESH_ESIZE);
+	     qoriwesh_make_fresh(LEND_WITH(&m, &m.online, numbers, length), &made_slice), QORIWESH_ESIZE);
 	same("its full slice", made_slice, 0);
 	same("the default one with this log",
-	     qoriwesh_make_fresh_default(m.cpus, TABLES_WITH(&m, numbers, length), &default_slice), QORIWESH_ESIZE);
+	     qoriwesh_make_fresh_default(m.cpus, TABLES_WITH(&m, &m.online, numbers, length), &default_slice),
+	     QORIWESH_ESIZE);
 	same("its full slice", default_slice, 0);
 	same("what they changed in the log", memcmp(kept, numbers, sizeof(numbers)) != 0, 0);
 	same("what they changed", memcmp(&before, &m, sizeof(m)) != 0, 0);
@@ -546,7 +778,7 @@ static void lengths(void)
 	k2("lengths of the log");
 	same("its numbers", QORIWESH_LOG, 252);
 	memset(numbers, 0x5a, sizeof(numbers));
-	same("the check with 252 numbers", qoriwesh_check(LEND_WITH(&m, numbers, QORIWESH_LOG)), QORIWESH_OK);
+	same("the check with 252 numbers", qoriwesh_check(LEND_WITH(&m, &m.online, numbers, QORIWESH_LOG)), QORIWESH_OK);
 	log_refused(0);
 	log_refused(189);
 	log_refused(QORIWESH_LOG - 1);
@@ -605,7 +837,7 @@ static void slice_refused(uint32_t full_slice)
 	m.full_slice = full_slice;
 	same("the check with it", qoriwesh_machine_check(&m), -QORIWESH_ESIZE);
 	event(QORIWESH_SLEEP, 0, 0, 0, 0, -QORIWESH_ESIZE);
-	event(10, 0, 0, 0, 0, -QORIWESH_ESIZE);
+	event(12, 0, 0, 0, 0, -QORIWESH_ESIZE);
 	m.full_slice = 100;
 	event(QORIWESH_SLEEP, 0, 0, 0, 0, 0);
 }
@@ -634,7 +866,7 @@ static void others(void)
 	same("no level", found_level, QORIWESH_LEVEL_INVALID);
 	same("its refusal", qoriwesh_machine_find(&m, 102, 3, &found_level, &found_mask), -QORIWESH_EVALUE);
 	begin("refusals");
-	event(10, 0, 0, 0, 0, -QORIWESH_EKIND);
+	event(12, 0, 0, 0, 0, -QORIWESH_EKIND);
 	event(QORIWESH_ADD, 5, 3, 50, 1, -QORIWESH_EPOLICY);
 	m.levels[63] = 0;
 	same("a damaged record", qoriwesh_machine_check(&m), -QORIWESH_EFORM);
@@ -659,10 +891,17 @@ int main(void)
 	raised_unchanged();
 	lowered_moves();
 	lowered_sleeper();
+	leaves_and_back();
+	leaves_by_mask();
+	offline_refused();
+	while_offline();
+	one_after_the_other();
+	online_words();
 	k12();
 	lengths();
 	others();
 	if (!wrong)
-		printf("K1 to K12, new priorities, full slices, the finder and the refusals are as the documents say\n");
+		printf("K1 to K12, new priorities, full slices, CPUs offline, the finder and the refusals are as the documents "
+		       "say\n");
 	return wrong;
 }

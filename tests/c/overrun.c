@@ -17,7 +17,7 @@ int main(void)
 			      m.prio, QORIWESH_TASKS, m.cpu, QORIWESH_TASKS,
 			      m.slice, QORIWESH_TASKS, m.mask, QORIWESH_TASKS,
 			      m.rows, 2 * QORIWESH_TASKS, m.counts, 2, m.flags, 2,
-			      m.log, QORIWESH_LOG, m.level_masks, QORIWESH_LEVELS,
+			      &m.online, m.log, QORIWESH_LOG, m.level_masks, QORIWESH_LEVELS,
 			      m.level_counts, QORIWESH_LEVELS, m.level_words, QORIWESH_WORDS,
 			      m.levels, QORIWESH_CPUS) ? 1 : 0;
 }

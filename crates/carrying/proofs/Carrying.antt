@@ -1,21 +1,21 @@
 -- A decision carried out, variant by variant.
 -- Assumes nothing.
 use mathlib.Core.Path.{_≡_, refl, sym, ap, _∙_, subst}
-use mathlib.Core.List.{List, [], _∷_}
+use mathlib.Core.List.{List}
 use Prim.Native.Nat.{ℕ, _≤_, _<_}
 use lib.ListN.{set}
 use Rattle.cpupri.specs.Record.{recordOf}
 use Rattle.levels.specs.declared.record.Record.{Record}
 use Rattle.bits.specs.Bit.{withBit, withoutBit}
-use Rattle.rules.specs.Machine.{Machine, row, taskOf, lowestAllowed, levels, withFlag, withoutCpu, withCpu, enqueue, dequeue}
-use Rattle.rules.specs.Events.{evacuated, takenOffline}
+use Rattle.rules.specs.Machine.{Machine, row, levels, withFlag, withoutCpu, withCpu, enqueue, dequeue}
+use Rattle.rules.specs.Events.{takenOffline}
 use Rattle.rules.specs.Plan.{carried}
 use Rattle.plans.specs.Decided.{asPlan, did, Goable}
 use Rattle.plans.specs.declared.plan.Plan.{Plan as Written}
 use Rattle.plans.specs.declared.plan.Decision.{Decision}
 use Rattle.plans.specs.declared.plan.Decision.the-variants.{Place, Flag, Offline, Online}
 use Rattle.carrying.specs.Holds.{Holds, Ready, Carriable, Placeable}
-use Rattle.laws.proofs.Online.{leaving}
+use Rattle.laws.proofs.Online.{leaving, evacuated-keeps}
 use Rattle.parts.specs.Optional.{Flagging}
 use Rattle.placement.proofs.Order.{well-formed-order}
 use Rattle.evacuation.specs.Going.{Emptying, Shifted, Coming}
@@ -85,7 +85,6 @@ module _ {m : Machine} {ss ps qs cs ls ks flat ns fs : List ℕ} {on : ℕ} {r :
 
   pub cpu-gone : {c on′ : ℕ} {cs′ flat′ ns′ : List ℕ} {r′ : Record} → d ≡ Offline c → Shifted (takenOffline c m) cs′ flat′ ns′ on′ r′
       → Holds (did d m) ss ps qs cs′ ls ks flat′ ns′ fs on′ r′
-  unfolding evacuated
   cpu-gone {c} {on′} {cs′} {flat′} {ns′} {r′} e h =
       subst (λ (x : Decision). Holds (did x m) ss ps qs cs′ ls ks flat′ ns′ fs on′ r′) (sym e)
       (record {
@@ -102,13 +101,8 @@ module _ {m : Machine} {ss ps qs cs ls ks flat ns fs : List ℕ} {on : ℕ} {r :
         levels = h .levels;
       })
     where
-      -- a part that moving a task leaves alone
-      kept : (f : Machine → List ℕ) → ((t d : ℕ) (x : Machine) → f (enqueue t d (dequeue t c x)) ≡ f x) → (ts : List ℕ) (x : Machine) → f (evacuated c ts x) ≡ f x
-      kept f k [] x = refl
-      kept f k (t ∷ ts) x = kept f k ts (enqueue t (lowestAllowed x (taskOf x t .mask)) (dequeue t c x)) ∙ k t (lowestAllowed x (taskOf x t .mask)) x
-
       stays : (f : Machine → List ℕ) → ((t d : ℕ) (x : Machine) → f (enqueue t d (dequeue t c x)) ≡ f x) → f (withoutCpu c m) ≡ f (takenOffline c m)
-      stays f k = sym (kept f k (row m c) (withoutCpu c m))
+      stays f k = sym (evacuated-keeps c f k (row m c) (withoutCpu c m))
 
   -- ---- a CPU comes back
 

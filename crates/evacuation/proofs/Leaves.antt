@@ -1,30 +1,29 @@
 -- The lent tables while the tasks of a CPU leave it, and the levels when it has gone or come back.
 -- Assumes nothing.
 use mathlib.Core.Path.{_≡_, refl, sym, ap, _∙_, subst}
-use mathlib.Core.Bool.{Bool, true, false, cond}
-use mathlib.Core.Logic.{_≢_}
+use mathlib.Core.Bool.{Bool, true, cond}
 use mathlib.Core.List.{List, [], _∷_}
-use Prim.Native.Nat.{ℕ, _+_, _*_, _≤_, _<_}
+use Prim.Native.Nat.{ℕ, _*_, _<_}
 use native.Mathlib.Nat.{not-suc-le-zero}
 use native.Mathlib.Omega.{arith}
 use lib.Bits.{bitAnd}
-use lib.ListN.{length, getD, set, length-map}
-use Rattle.bits.specs.Bit.{bit, lowest, withBit, withoutBit}
+use lib.ListN.{length, getD, set}
+use Rattle.bits.specs.Bit.{lowest, withoutBit}
 use Rattle.bits.proofs.Word.{bit-put-same, bit-put-other}
 use Rattle.cpupri.specs.Record.{recordOf, Whole}
 use Rattle.levels.specs.declared.record.Record.{Record}
 use Rattle.rules.specs.Lists.{In, delete}
-use Rattle.rules.specs.Machine.{Machine, taskOf, prioOf, row, flag, isOnline, idleLevel, rowLevel, level, levels, invalid, taskPlaces, cpuPlaces, withOnline, withCpu, enqueue, dequeue}
+use Rattle.rules.specs.Machine.{Machine, taskOf, prioOf, row, flag, idleLevel, rowLevel, level, levels, invalid, taskPlaces, cpuPlaces, withOnline, withCpu, enqueue, dequeue}
 use Rattle.rules.specs.Events.{evacuated, takenOffline}
 use Rattle.rules.specs.Tables.{flatOf, rowCounts}
-use Rattle.laws.specs.Leaving.{Leaving, Way, Left, toward, oneLess}
+use Rattle.laws.specs.Leaving.{Leaving, Way, toward, oneLess}
 use Rattle.laws.proofs.Apart.{runnable-place, runnable-fit}
 use Rattle.laws.proofs.Lists.{in-here}
 use Rattle.laws.proofs.Online.{Goes, goes, goes-room, less-way, less-row, way-start, way-on, left-rule, row-online, lowest-allowed}
 use Rattle.laws.proofs.Rows.{row-same}
 use Rattle.laws.proofs.Tables.{length-flat}
 use Rattle.runqueue.specs.Table.{HoldsRows, rowAt, rowsWith}
-use Rattle.runqueue.proofs.Flat.{count-is, first-place, rows-fit}
+use Rattle.runqueue.proofs.Flat.{count-is, first-place}
 use Rattle.placement.specs.Held.{Held, Entering, Following}
 use Rattle.placement.proofs.Levels.{levels-change}
 use Rattle.placement.proofs.Order.{holds, read-row, whole as whole-held, cpus-counted, levels-set, well-formed-order}

@@ -56,8 +56,8 @@ module _ (m : Machine) (e : Event) where
   able Nothing h = tt
   able (Place p) h = h .1 .doable
   able (Flag c b) h = tt
-  able (Offline c) h = tt
-  able (Online c) h = tt
+  able (Offline c) h = h .2
+  able (Online c) h = h .2
 
   pub refused : (a : ℕ) → Decides m e (Refused a) → (a ≡ refusal m e) × (a ≡ 0 → ⊥)
   unfolding Decides

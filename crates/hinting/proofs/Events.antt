@@ -2,25 +2,28 @@
 -- Assumes nothing.
 use mathlib.Core.Path.{_≡_, refl, sym, ap, _∙_, subst, subst₂}
 use mathlib.Core.Bool.{Bool, true, false, cond, _&&_}
-use mathlib.Core.List.{tail}
+use mathlib.Core.List.{List, [], _∷_, tail}
 use mathlib.Core.Option.{Option, none, some}
 use Prim.Native.Nat.{ℕ, _<_}
 use native.Mathlib.Omega.{arith}
 use lib.Dec.{eqb, ltb}
-use Rattle.rules.specs.Machine.{Machine, Task as Columns, taskOf, row, running, level, runnable, taskPlaces, cpuPlaces}
+use Rattle.rules.specs.Machine.{Machine, Task as Columns, taskOf, row, running, level, withCpu, runnable, taskPlaces, cpuPlaces}
 use Rattle.rules.specs.Migration.{next}
 use Rattle.rules.specs.Plan.{carried}
 use Rattle.rules.specs.Tables.{nothing}
 use Rattle.rules.specs.WellFormed.{WellFormed, Sound, is-free, is-asleep, is-runnable}
 use Rattle.laws.specs.Limited.{Limited, holds, second, fallenCpu, newTask, orNothing}
+use Rattle.rules.specs.Lists.{In}
 use Rattle.laws.proofs.Apart.{in-row, runnable-place}
+use Rattle.laws.proofs.Hotplug.{limited-back, limited-left, limited-gone}
+use Rattle.laws.proofs.Lists.{in-here}
 use Rattle.laws.proofs.Limited.{waits-in, first-in}
 use Rattle.laws.proofs.Touched.{ran-there, limited-touched, touches-carried, limited-settled, limited-flag}
 use Rattle.plans.specs.Decided.{asPlan, did}
 use Rattle.plans.specs.declared.plan.Decision.{Decision}
 use Rattle.plans.specs.declared.plan.Decision.the-variants.{Refused, Nothing, Place, Flag, Offline, Online}
 use Rattle.hinting.specs.Hinted.{cpuOption, taskOption, Hinted}
-use Rattle.hinting.specs.Past.{pastBy, Able, Standing, fallenSince, newSince, hintAfter}
+use Rattle.hinting.specs.Past.{pastOfRow, pastBy, Able, Standing, fallenSince, newSince, hintAfter}
 use Rattle.hinting.proofs.Hints.{some-task, option-task, some-cpu}
 
 -- the CPU of any task is one of the N
@@ -31,6 +34,10 @@ cpu-small m t w h = go (w .tasks t h)
     go (is-free e) = let z : taskOf m t .cpu ≡ 0 = ap (λ (τ : Columns). τ .cpu) e in omega (arith, w .shape .some-cpu)
     go (is-asleep s f) = f .cpu
     go (is-runnable s f) = f .cpu
+
+-- the first of a row is a task
+pub first-place : (m : Machine) (c t : ℕ) (ts : List ℕ) → WellFormed m → row m c ≡ t ∷ ts → t < taskPlaces
+first-place m c t ts w e = runnable-place m t w (in-row m t c w (subst (In t) (sym e) (in-here t ts)) .0)
 
 -- what was read before, and is read after, are the two options of the rules
 module _ (t : ℕ) (m m′ : Machine) (w : WellFormed m) (w′ : WellFormed m′) (h : t < taskPlaces) where
@@ -79,8 +86,13 @@ module _ (m : Machine) (w : WellFormed m) (still : next m ≡ none) where
       hinted-task (p .task) m (carried (asPlan p) m) w w′ (k .task)
       (limited-touched (p .task) m (carried (asPlan p) m) w w′ (touches-carried m (asPlan p) w k) still)
   settled-hinted (Flag c b) k w′ = limited-flag m c b w still
-  settled-hinted (Offline c) k w′ = tt
-  settled-hinted (Online c) k w′ = tt
+  settled-hinted (Offline c) k w′ = go (row m c) refl
+    where
+      go : (r : List ℕ) → row m c ≡ r → Hinted (did (Offline c) m) (hintAfter (pastOfRow m r) (did (Offline c) m))
+      go [] e = limited-left c m w (k .cpu) w′ still e
+      go (t ∷ ts) e = hinted-task t m (did (Offline c) m) w w′ (first-place m c t ts w e) (limited-gone c m w (k .cpu) w′ still (k .placed) t ts e)
+  settled-hinted (Online c) k w′ =
+      subst (λ (o : Option ℕ). Limited (withCpu c m) o none) (sym (some-cpu c (omega (arith, k, w .shape .cpus)))) (limited-back c m still k)
 
 pub event-hinted : (s : Bool) (m : Machine) (d : Decision) → WellFormed m → (s ≡ true → next m ≡ none) → Able m d → WellFormed (did d m)
     → Hinted (did d m) (hintAfter (pastBy s m d) (did d m))
@@ -94,5 +106,9 @@ past-stands true m m′ (Refused a) w e k = tt
 past-stands true m m′ Nothing w e k = tt
 past-stands true m m′ (Place p) w e k = (k .task, subst (λ (n : ℕ). taskOf m (p .task) .cpu < n) (sym e) (cpu-small m (p .task) w (k .task)))
 past-stands true m m′ (Flag c b) w e k = tt
-past-stands true m m′ (Offline c) w e k = tt
+past-stands true m m′ (Offline c) w e k = go (row m c) refl
+  where
+    go : (r : List ℕ) → row m c ≡ r → Standing m′ (pastOfRow m r)
+    go [] q = tt
+    go (t ∷ ts) q = let place = first-place m c t ts w q in (place, subst (λ (n : ℕ). taskOf m t .cpu < n) (sym e) (cpu-small m t w place))
 past-stands true m m′ (Online c) w e k = tt

@@ -2,27 +2,28 @@
 -- Assumes nothing.
 use mathlib.Core.Path.{_≡_, refl, sym, ap, _∙_, subst}
 use mathlib.Core.Bool.{Bool, true, false, cond, _&&_, not, false≢true}
-use mathlib.Core.List.{List}
+use mathlib.Core.List.{List, [], _∷_}
+use mathlib.Core.Logic.{_≢_}
 use mathlib.Core.Option.{Option, none, some}
 use Prim.Native.Nat.{ℕ, _+_, _*_, _≤_, _<_}
 use native.Mathlib.Omega.{arith}
 use lib.Dec.{eqb, ltb}
 use lib.ListN.{length, getD}
 use borrow.Author.Tests.{eq-eqb, ne-eqb, not-false}
-use Rattle.rules.specs.Machine.{Machine, taskOf, row, running, level, levels, runnable, taskPlaces, cpuPlaces}
+use Rattle.rules.specs.Machine.{Machine, taskOf, row, head, running, level, levels, runnable, taskPlaces, cpuPlaces}
 use Rattle.rules.specs.Tables.{nothing}
 use Rattle.laws.specs.Limited.{holds, second, orNothing}
 use Rattle.laws.proofs.Tables.{flat-first, flat-second, length-flat}
 use Rattle.laws.proofs.Record.{levels-below}
 use Rattle.placement.proofs.Order.{well-formed-order}
 use Rattle.plans.specs.declared.plan.Decision.{Decision}
-use Rattle.plans.specs.declared.plan.Decision.the-variants.{Place}
+use Rattle.plans.specs.declared.plan.Decision.the-variants.{Place, Offline}
 use Rattle.plans.specs.declared.plan.Plan.{Plan}
-use Rattle.hinting.specs.Past.{Reading, pastOf, pastBy, Able, newSince, hintAfter}
+use Rattle.hinting.specs.Past.{Reading, pastOf, pastOfRow, pastBy, Able, newSince, hintAfter}
 use Rattle.hinting.specs.declared.hint.Hint.the-variants.{Few}
 use Rattle.hinting.specs.declared.past.Past.{Past}
-use Rattle.hinting.specs.declared.past.Past.the-variants.{Unknown, Task}
-use Rattle.hinting.proofs.Events.{cpu-small}
+use Rattle.hinting.specs.declared.past.Past.the-variants.{Unknown, Untouched, Task}
+use Rattle.hinting.proofs.Events.{cpu-small, first-place}
 
 -- a place that holds nothing holds no task
 pub holds-place : (o : Option ℕ) (t : ℕ) → t < taskPlaces → eqb (orNothing o) t ≡ holds o t
@@ -69,6 +70,35 @@ module _ {m : Machine} {cs flat ls : List ℕ} (k : Reading m cs flat ls) where
       ∙ ap (λ (l : ℕ). Task t (getD cs t 0) l (holds (running m (getD cs t 0)) t)) (level-is (getD cs t 0) low)
       ∙ ap (λ (c : ℕ). Task t c (level m c) (holds (running m c) t)) (cpu-is t)
 
+-- the number of CPUs is read off the rows
+pub same-cpus : {a b : Machine} {cs flat ls : List ℕ} → Reading a cs flat ls → Reading b cs flat ls → a .n ≡ b .n
+same-cpus k l = omega (arith, rows-long k, rows-long l)
+
+-- the first of a row, if there is one
+module _ {m : Machine} {cs flat ls : List ℕ} (k : Reading m cs flat ls) (c : ℕ) (h : c < m .n) where
+  pub none-runs : getD flat (c * taskPlaces) 0 ≡ nothing → Untouched ≡ pastOfRow m (row m c)
+  none-runs e = go (row m c) refl
+    where
+      go : (r : List ℕ) → row m c ≡ r → Untouched ≡ pastOfRow m r
+      go [] q = refl
+      go (t ∷ ts) q =
+          let is : t ≡ nothing = sym (first-is k c h ∙ ap (λ (r : List ℕ). orNothing (head r)) q) ∙ e in
+          absurd (omega (arith, first-place m c t ts (k .well) q))
+
+  pub one-runs : getD flat (c * taskPlaces) 0 ≢ nothing
+      → (getD flat (c * taskPlaces) 0 < taskPlaces) × (pastOf m (getD flat (c * taskPlaces) 0) ≡ pastOfRow m (row m c))
+  one-runs n = go (row m c) refl
+    where
+      first : (r : List ℕ) → row m c ≡ r → getD flat (c * taskPlaces) 0 ≡ orNothing (head r)
+      first r q = first-is k c h ∙ ap (λ (r : List ℕ). orNothing (head r)) q
+
+      go : (r : List ℕ) → row m c ≡ r → (getD flat (c * taskPlaces) 0 < taskPlaces) × (pastOf m (getD flat (c * taskPlaces) 0) ≡ pastOfRow m r)
+      go [] q = absurd (n (first [] q))
+      go (t ∷ ts) q = (
+        subst (λ (x : ℕ). x < taskPlaces) (sym (first (t ∷ ts) q)) (first-place m c t ts (k .well) q),
+        ap (pastOf m) (first (t ∷ ts) q),
+      )
+
 -- ---- by what was decided
 
 pub unknown-past : (m : Machine) (d : Decision) (s : Bool) → not s ≡ true → Unknown ≡ pastBy s m d
@@ -77,6 +107,9 @@ unknown-past m d false e = refl
 
 pub decided-past : (m : Machine) (d f : Decision) (s : Bool) → not s ≡ false → d ≡ f → pastBy true m f ≡ pastBy s m d
 decided-past m d f s e is = ap (λ (g : Decision). pastBy true m g) (sym is) ∙ ap (λ (b : Bool). pastBy b m d) (sym (not-false s e))
+
+pub able-gone : (m : Machine) (d : Decision) {c : ℕ} → Able m d → d ≡ Offline c → c < m .n
+able-gone m d k is = subst (Able m) is k .cpu
 
 pub able-task : (m : Machine) (d : Decision) {p : Plan} → Able m d → d ≡ Place p → p .task < taskPlaces
 able-task m d k is = subst (Able m) is k .task

@@ -2,7 +2,7 @@
 -- Assumes nothing.
 use mathlib.Core.Path.{_≡_}
 use mathlib.Core.Bool.{Bool, true, false, cond, _&&_}
-use mathlib.Core.List.{List}
+use mathlib.Core.List.{List, [], _∷_}
 use Prim.Native.Nat.{ℕ, _<_}
 use lib.Dec.{eqb, ltb}
 use Rattle.rules.specs.Machine.{Machine, taskOf, row, running, level, levels, runnable, taskPlaces, cpuPlaces}
@@ -12,11 +12,11 @@ use Rattle.rules.specs.WellFormed.{WellFormed}
 use Rattle.laws.specs.Limited.{holds, second, orNothing}
 use Rattle.hinting.specs.declared.hint.Hint.{Hint}
 use Rattle.hinting.specs.declared.hint.Hint.the-variants.{Unknown as Anyone, Few}
-use Rattle.plans.specs.Decided.{asPlan}
+use Rattle.plans.specs.Decided.{asPlan, Goable}
 use Rattle.plans.specs.declared.plan.Decision.{Decision}
 use Rattle.plans.specs.declared.plan.Decision.the-variants.{Refused, Nothing, Place, Flag, Offline, Online}
 use Rattle.hinting.specs.declared.past.Past.{Past}
-use Rattle.hinting.specs.declared.past.Past.the-variants.{Unknown, Untouched, Task}
+use Rattle.hinting.specs.declared.past.Past.the-variants.{Unknown, Untouched, Task, Back}
 
 -- the lent tables hold the machine m: cs the CPUs, flat the rows, ls the record's levels
 pub record Reading (m : Machine) (cs flat ls : List ℕ) : Type 0 where
@@ -31,24 +31,29 @@ pub record Reading (m : Machine) (cs flat ls : List ℕ) : Type 0 where
 abbrev pub pastOf : Machine → ℕ → Past
 pastOf m t = let c : ℕ = taskOf m t .cpu in Task t c (level m c) (holds (running m c) t)
 
--- a decision touches the task that it places; where a CPU goes or comes, nothing is known
+-- the first of a row
+abbrev pub pastOfRow : Machine → List ℕ → Past
+pastOfRow m [] = Untouched
+pastOfRow m (t ∷ ts) = pastOf m t
+
+-- a decision touches the task that it places; where a CPU goes, the task that ran on it counts
 abbrev pub pastBy : Bool → Machine → Decision → Past
 pastBy false m d = Unknown
 pastBy true m (Refused a) = Untouched
 pastBy true m Nothing = Untouched
 pastBy true m (Place p) = pastOf m (p .task)
 pastBy true m (Flag c b) = Untouched
-pastBy true m (Offline c) = Unknown
-pastBy true m (Online c) = Unknown
+pastBy true m (Offline c) = pastOfRow m (row m c)
+pastBy true m (Online c) = Back c
 
--- what a decision places can be placed
+-- what a decision places can be placed, and a CPU can go or come
 abbrev pub Able : Machine → Decision → Type 0
 Able m (Refused a) = Unit {0}
 Able m Nothing = Unit {0}
 Able m (Place p) = Doable m (asPlan p)
 Able m (Flag c b) = Unit {0}
-Able m (Offline c) = Unit {0}
-Able m (Online c) = Unit {0}
+Able m (Offline c) = Goable m c
+Able m (Online c) = c < m .n
 
 -- ---- after it
 
@@ -66,9 +71,11 @@ abbrev pub hintAfter : Past → Machine → Hint
 hintAfter Unknown m = Anyone
 hintAfter Untouched m = Few cpuPlaces nothing
 hintAfter (Task t c l ran) m = Few (fallenSince c l ran m) (newSince t c ran m)
+hintAfter (Back c) m = Few c nothing
 
 -- what was read is of a task, and of one of the machine's CPUs
 abbrev pub Standing : Machine → Past → Type 0
 Standing m Unknown = Unit {0}
 Standing m Untouched = Unit {0}
 Standing m (Task t c l ran) = (t < taskPlaces) × (c < m .n)
+Standing m (Back c) = Unit {0}

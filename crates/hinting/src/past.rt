@@ -2,8 +2,8 @@
 ghost use mathlib.Core.Path.{_≡_};
 ghost use Prim.Native.Nat.{_<_};
 ghost use Rattle.bits.specs.Moments.{old};
-ghost use Rattle.rules.specs.Machine.{Machine, taskPlaces, levels as levelsOf};
-ghost use Rattle.hinting.specs.Past.{Reading, Standing, Able, pastOf, pastBy, newSince, hintAfter};
+ghost use Rattle.rules.specs.Machine.{Machine, row, taskPlaces, levels as levelsOf};
+ghost use Rattle.hinting.specs.Past.{Reading, Standing, Able, pastOf, pastOfRow, pastBy, newSince, hintAfter};
 use super::hint::Hint;
 use cpupri::record::CPUS;
 use plans::plan::Decision;
@@ -13,7 +13,7 @@ use runqueue::row::PLACES;
 
 // What was so before the effect.
 pub enum Past {
-    // the machine was perhaps not settled, or is much changed
+    // the machine was perhaps not settled
     Unknown,
     // it was, and no task is touched
     Untouched,
@@ -23,6 +23,10 @@ pub enum Past {
         cpu: usize,
         level: u8,
         ran: bool,
+    },
+    // it was; this CPU comes back
+    Back {
+        cpu: usize,
     },
 }
 
@@ -44,9 +48,21 @@ pub fn remember(
         Decision::Flag { cpu: _, work: _ } => Past::Untouched,
         Decision::Nothing => Past::Untouched,
         Decision::Refused(_) => Past::Untouched,
-        Decision::Offline { cpu: _ } => Past::Unknown, // many tasks are touched
-        Decision::Online { cpu: _ } => Past::Unknown, // anyone may go there
+        Decision::Offline { cpu: at } => runner(at, cpu, rows, levels),
+        Decision::Online { cpu: at } => Past::Back { cpu: at },
     }
+}
+
+// Where the task stands that runs on a CPU which goes: of those that leave it no other can find a lower CPU.
+fn runner(at: usize, cpu: &[u8], rows: &[u16], levels: &[u8; CPUS]) -> Past
+    requires { ⌜ ((m : Machine) × (Reading m (now cpu) (now rows) (now levels) × (at < m .n))) ⌝ }
+    ensures { λ r. ⌜ ((m : Machine) → Reading m (old cpu) (old rows) (old levels) → r ≡ pastOfRow m (row m at)) ⌝ }
+{
+    let first = rows[at * PLACES];
+    if first == NOTHING {
+        return Past::Untouched;
+    }
+    standing(first, cpu, rows, levels)
 }
 
 // Where a task stands.
@@ -74,6 +90,10 @@ pub fn hint(past: Past, state: &[u8], cpu: &[u8], rows: &[u16], levels: &[u8; CP
         Past::Unknown => Hint::Unknown,
         Past::Untouched => Hint::Few {
             fallen: CPUS,
+            new: NOTHING,
+        },
+        Past::Back { cpu: at } => Hint::Few {
+            fallen: at,
             new: NOTHING,
         },
         Past::Task {

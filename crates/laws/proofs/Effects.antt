@@ -11,7 +11,7 @@ use lib.Pow.{pow-mono, pow-pos}
 use lib.ListN.{length, getD, set, replicate, length-replicate, getD-replicate, length-set}
 use lib.Seq.{getD-set-same, getD-set-other}
 use borrow.Author.Tests.{eq-eqb, eqb-true, eqb-false, leb-true, not-false}
-use Rattle.bits.specs.Bit.{bit, first, tally}
+use Rattle.bits.specs.Bit.{first, tally}
 use Rattle.cpupri.specs.Found.{maskFits}
 use Rattle.rules.specs.Lists.{occ, In, Falling}
 use Rattle.rules.specs.Machine.{Machine, Task, Column, taskOf, freeTask, prioOf, row, flag, allowed, allows, lowestAllowed, stranded, fresh}

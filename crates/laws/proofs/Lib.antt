@@ -15,6 +15,7 @@ pub mod Runs
 pub mod Demand3
 pub mod Limited
 pub mod Touched
+pub mod Hotplug
 pub mod Room
 pub mod Test
 pub mod Tables

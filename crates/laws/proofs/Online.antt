@@ -1,14 +1,14 @@
 -- CPUs that are online: what a machine's online mask says of rows, levels and masks, and that it stays well-formed when a CPU goes or comes back.
 -- Assumes nothing.
 use mathlib.Core.Path.{_≡_, refl, sym, ap, _∙_, subst}
-use mathlib.Core.Bool.{Bool, true, false, cond, _&&_, true≢false}
+use mathlib.Core.Bool.{Bool, true, false, cond, true≢false}
 use mathlib.Core.Logic.{_≢_, _⊎_, inl, inr}
 use mathlib.Core.List.{List, [], _∷_}
 use Prim.Native.Nat.{ℕ, _+_, _-_, _≤_, _<_, _^_}
 use native.Mathlib.Nat.{lt-of-le-of-lt}
 use native.Mathlib.Omega.{arith}
 use lib.Bits.{bitAnd, and-le-l}
-use lib.Dec.{eqb, ltb}
+use lib.Dec.{ltb}
 use lib.ListN.{length}
 use borrow.Author.Tests.{eq-eqb, eqb-true, eqb-false, ltb-true, ltb-false}
 use Rattle.bits.specs.Bit.{bit, first, lowest, withBit, withoutBit}
@@ -264,6 +264,14 @@ way-on up c m m′ m″ x y = record { leaving = y .leaving; cpus = y .cpus ∙ 
 pub left-rule : (up c : ℕ) (m m′ : Machine) → Left up c m m′ → evacuated c (row m c) (withOnline up m) ≡ withOnline up m′
 unfolding evacuated
 left-rule up c m m′ l = l .way .rule ∙ ap (λ (r : List ℕ). evacuated c r (withOnline up m′)) (l .empty)
+
+-- a part of the machine that moving a task leaves alone
+pub evacuated-keeps : {A : Type 0} (c : ℕ) (f : Machine → A) → ((t d : ℕ) (x : Machine) → f (enqueue t d (dequeue t c x)) ≡ f x) → (ts : List ℕ) (x : Machine)
+    → f (evacuated c ts x) ≡ f x
+unfolding evacuated
+evacuated-keeps c f k [] x = refl
+evacuated-keeps c f k (t ∷ ts) x =
+    let to = lowestAllowed x (taskOf x t .mask) in evacuated-keeps c f k ts (enqueue t to (dequeue t c x)) ∙ k t to x
 
 -- all can leave
 evacuate : (up c : ℕ) (ts : List ℕ) (m : Machine) → Leaving up c m → row m c ≡ ts → (m′ : Machine) × Left up c m m′

@@ -98,6 +98,94 @@ pub record Touches (t : ℕ) (m m′ : Machine) : Type 0 where
   pub online : m′ .online ≡ m .online
   pub allowed : (u c : ℕ) → u ≢ t → allowed m′ u c ≡ allowed m u c
 
+-- ---- what the two options say of a task t that an effect touches, and perhaps others with it
+
+module _ (t : ℕ) (m m′ : Machine) (w : WellFormed m) (w′ : WellFormed m′) where
+  abbrev from : ℕ
+  from = taskOf m t .cpu
+
+  abbrev to : ℕ
+  to = taskOf m′ t .cpu
+
+  pub ran-cpu : (c : ℕ) → running m c ≡ some t → from ≡ c
+  ran-cpu c e = in-row m t c w (first-in t (row m c) e) .1
+
+  pub fallen-is : (c : ℕ) → running m c ≡ some t → level m′ c < level m c → fallenCpu t m m′ ≡ some c
+  fallen-is c e h =
+      ap (λ (b : Bool). cond (b && ltb (level m′ from) (level m from)) (some from) none) (some-holds (running m from) t (ap (running m) at ∙ e))
+      ∙ ap (λ (b : Bool). cond b (some from) none) (lt-ltb (level m′ from) (level m from) (subst (λ (x : ℕ). level m′ x < level m x) (sym at) h))
+      ∙ ap (λ (x : ℕ). some x) at
+    where
+      at : from ≡ c
+      at = ran-cpu c e
+
+  pub fallen-means : (c : ℕ) → fallenCpu t m m′ ≡ some c → (running m c ≡ some t) × (c < m .n)
+  fallen-means c e = go (holds (running m from) t && ltb (level m′ from) (level m from)) refl e
+    where
+      go : (b : Bool) → (holds (running m from) t && ltb (level m′ from) (level m from)) ≡ b → cond b (some from) none ≡ some c → (running m c ≡ some t) × (c < m .n)
+      go false h e = absurd (none-some c e)
+      go true h e =
+          let s : from ≡ c = cc in
+          let r : running m from ≡ some t = holds-some (running m from) t (both (holds (running m from) t) (ltb (level m′ from) (level m from)) h .0) in
+          let q : taskOf m t .state ≡ runnable = in-row m t from w (first-in t (row m from) r) .0 in
+          (subst (λ (x : ℕ). running m x ≡ some t) s r, subst (λ (x : ℕ). x < m .n) s (runnable-fit m t w q .cpu))
+
+  -- t waits
+  pub new-waits : In t (waiting m′) → newTask t m m′ ≡ some t
+  new-waits i = go (tails-in t (m′ .rows) i)
+    where
+      no : (b : Bool) → holds (running m′ to) t ≡ b → cond b (cond (holds (running m to) t) none (second (row m′ to))) (some t) ≡ some t
+      no true h = absurd (runs-not-waits m′ w′ to t (holds-some (running m′ to) t h) i)
+      no false h = refl
+
+      go : (d : ℕ) × (d < length (m′ .rows)) × (In t (tail (row m′ d))) → newTask t m m′ ≡ some t
+      go f =
+          ap (λ (b : Bool). cond b (cond (holds (running m′ to) t) (cond (holds (running m to) t) none (second (row m′ to))) (some t)) none)
+          (eq-eqb (taskOf m′ t .state) runnable (in-row m′ t (f .0) w′ (waits-in m′ t (f .0) (f .2)) .0))
+          ∙ no (holds (running m′ to) t) refl
+
+  -- t runs on CPU c
+  pub new-runs : (c : ℕ) → running m′ c ≡ some t → newTask t m m′ ≡ cond (holds (running m c) t) none (second (row m′ c))
+  new-runs c r =
+      ap (λ (b : Bool). cond b (cond (holds (running m′ to) t) (cond (holds (running m to) t) none (second (row m′ to))) (some t)) none)
+      (eq-eqb (taskOf m′ t .state) runnable (here .0))
+      ∙ ap (λ (b : Bool). cond b (cond (holds (running m to) t) none (second (row m′ to))) (some t)) (some-holds (running m′ to) t (ap (running m′) (here .1) ∙ r))
+      ∙ ap (λ (x : ℕ). cond (holds (running m x) t) none (second (row m′ x))) (here .1)
+    where
+      here : (taskOf m′ t .state ≡ runnable) × (taskOf m′ t .cpu ≡ c)
+      here = in-row m′ t c w′ (first-in t (row m′ c) r)
+
+  -- the new task waits
+  pub new-task-waits : (x : ℕ) → newTask t m m′ ≡ some x → In x (waiting m′)
+  new-task-waits x e = go (eqb (taskOf m′ t .state) runnable) refl e
+    where
+      behind : (r : List ℕ) → In t r → (head r ≡ some t → ⊥) → In t (tail r)
+      behind [] i n = i
+      behind (y ∷ ys) i n = pick (in-cons t y ys i)
+        where
+          pick : (t ≡ y) ⊎ In t ys → In t ys
+          pick (inl s) = absurd (n (ap (λ (k : ℕ). some k) (sym s)))
+          pick (inr j) = j
+
+      ran : (b : Bool) → cond b none (second (row m′ to)) ≡ some x → In x (waiting m′)
+      ran true e = absurd (none-some x e)
+      ran false e = in-tails x to (m′ .rows) (first-in x (tail (row m′ to)) e)
+
+      runs : taskOf m′ t .state ≡ runnable → (b : Bool) → holds (running m′ to) t ≡ b
+          → cond b (cond (holds (running m to) t) none (second (row m′ to))) (some t) ≡ some x → In x (waiting m′)
+      runs s true h e = ran (holds (running m to) t) e
+      runs s false h e =
+          let q : t ≡ x = cc in
+          subst (λ (y : ℕ). In y (waiting m′)) q
+          (in-tails t to (m′ .rows) (behind (row m′ to) (row-in m′ t w′ s) (λ r. true≢false (sym (some-holds (running m′ to) t r) ∙ h))))
+
+      go : (b : Bool) → eqb (taskOf m′ t .state) runnable ≡ b
+          → cond b (cond (holds (running m′ to) t) (cond (holds (running m to) t) none (second (row m′ to))) (some t)) none ≡ some x → In x (waiting m′)
+      go true h e = runs (eqb-true (taskOf m′ t .state) runnable h) (holds (running m′ to) t) refl e
+      go false h e = absurd (none-some x e)
+
+-- ---- where it touches t alone
+
 module _ (t : ℕ) (m m′ : Machine) (w : WellFormed m) (w′ : WellFormed m′) (k : Touches t m m′) where
   -- a level falls only where t ran
   pub levels-touched : (c : ℕ) → c < m .n → (level m c ≤ level m′ c) ⊎ (running m c ≡ some t)
@@ -192,101 +280,16 @@ module _ (t : ℕ) (m m′ : Machine) (w : WellFormed m) (w′ : WellFormed m′
           let q : y ∷ delete t ys ≡ r = sym (delete-behind t y ys (λ x. n (sym s ∙ sym x))) ∙ d ∙ delete-first t h r e in
           subst (In u) q (subst (λ (x : ℕ). In x (y ∷ delete t ys)) s (in-here y (delete t ys)))
 
-  -- ---- what the two options say
-
-  abbrev from : ℕ
-  from = taskOf m t .cpu
-
-  abbrev to : ℕ
-  to = taskOf m′ t .cpu
-
-  ran-cpu : (c : ℕ) → running m c ≡ some t → from ≡ c
-  ran-cpu c e = in-row m t c w (first-in t (row m c) e) .1
-
-  fallen-is : (c : ℕ) → running m c ≡ some t → level m′ c < level m c → fallenCpu t m m′ ≡ some c
-  fallen-is c e h =
-      ap (λ (b : Bool). cond (b && ltb (level m′ from) (level m from)) (some from) none) (some-holds (running m from) t (ap (running m) at ∙ e))
-      ∙ ap (λ (b : Bool). cond b (some from) none) (lt-ltb (level m′ from) (level m from) (subst (λ (x : ℕ). level m′ x < level m x) (sym at) h))
-      ∙ ap (λ (x : ℕ). some x) at
-    where
-      at : from ≡ c
-      at = ran-cpu c e
-
-  fallen-means : (c : ℕ) → fallenCpu t m m′ ≡ some c → (running m c ≡ some t) × (c < m .n)
-  fallen-means c e = go (holds (running m from) t && ltb (level m′ from) (level m from)) refl e
-    where
-      go : (b : Bool) → (holds (running m from) t && ltb (level m′ from) (level m from)) ≡ b → cond b (some from) none ≡ some c → (running m c ≡ some t) × (c < m .n)
-      go false h e = absurd (none-some c e)
-      go true h e =
-          let s : from ≡ c = cc in
-          let r : running m from ≡ some t = holds-some (running m from) t (both (holds (running m from) t) (ltb (level m′ from) (level m from)) h .0) in
-          let q : taskOf m t .state ≡ runnable = in-row m t from w (first-in t (row m from) r) .0 in
-          (subst (λ (x : ℕ). running m x ≡ some t) s r, subst (λ (x : ℕ). x < m .n) s (runnable-fit m t w q .cpu))
-
-  -- t waits
-  new-waits : In t (waiting m′) → newTask t m m′ ≡ some t
-  new-waits i = go (tails-in t (m′ .rows) i)
-    where
-      no : (b : Bool) → holds (running m′ to) t ≡ b → cond b (cond (holds (running m to) t) none (second (row m′ to))) (some t) ≡ some t
-      no true h = absurd (runs-not-waits m′ w′ to t (holds-some (running m′ to) t h) i)
-      no false h = refl
-
-      go : (d : ℕ) × (d < length (m′ .rows)) × (In t (tail (row m′ d))) → newTask t m m′ ≡ some t
-      go f =
-          ap (λ (b : Bool). cond b (cond (holds (running m′ to) t) (cond (holds (running m to) t) none (second (row m′ to))) (some t)) none)
-          (eq-eqb (taskOf m′ t .state) runnable (in-row m′ t (f .0) w′ (waits-in m′ t (f .0) (f .2)) .0))
-          ∙ no (holds (running m′ to) t) refl
-
-  -- t runs on CPU c
-  new-runs : (c : ℕ) → running m′ c ≡ some t → newTask t m m′ ≡ cond (holds (running m c) t) none (second (row m′ c))
-  new-runs c r =
-      ap (λ (b : Bool). cond b (cond (holds (running m′ to) t) (cond (holds (running m to) t) none (second (row m′ to))) (some t)) none)
-      (eq-eqb (taskOf m′ t .state) runnable (here .0))
-      ∙ ap (λ (b : Bool). cond b (cond (holds (running m to) t) none (second (row m′ to))) (some t)) (some-holds (running m′ to) t (ap (running m′) (here .1) ∙ r))
-      ∙ ap (λ (x : ℕ). cond (holds (running m x) t) none (second (row m′ x))) (here .1)
-    where
-      here : (taskOf m′ t .state ≡ runnable) × (taskOf m′ t .cpu ≡ c)
-      here = in-row m′ t c w′ (first-in t (row m′ c) r)
-
-  -- the new task waits
-  new-task-waits : (x : ℕ) → newTask t m m′ ≡ some x → In x (waiting m′)
-  new-task-waits x e = go (eqb (taskOf m′ t .state) runnable) refl e
-    where
-      behind : (r : List ℕ) → In t r → (head r ≡ some t → ⊥) → In t (tail r)
-      behind [] i n = i
-      behind (y ∷ ys) i n = pick (in-cons t y ys i)
-        where
-          pick : (t ≡ y) ⊎ In t ys → In t ys
-          pick (inl s) = absurd (n (ap (λ (k : ℕ). some k) (sym s)))
-          pick (inr j) = j
-
-      ran : (b : Bool) → cond b none (second (row m′ to)) ≡ some x → In x (waiting m′)
-      ran true e = absurd (none-some x e)
-      ran false e = in-tails x to (m′ .rows) (first-in x (tail (row m′ to)) e)
-
-      runs : taskOf m′ t .state ≡ runnable → (b : Bool) → holds (running m′ to) t ≡ b
-          → cond b (cond (holds (running m to) t) none (second (row m′ to))) (some t) ≡ some x → In x (waiting m′)
-      runs s true h e = ran (holds (running m to) t) e
-      runs s false h e =
-          let q : t ≡ x = cc in
-          subst (λ (y : ℕ). In y (waiting m′)) q
-          (in-tails t to (m′ .rows) (behind (row m′ to) (row-in m′ t w′ s) (λ r. true≢false (sym (some-holds (running m′ to) t r) ∙ h))))
-
-      go : (b : Bool) → eqb (taskOf m′ t .state) runnable ≡ b
-          → cond b (cond (holds (running m′ to) t) (cond (holds (running m to) t) none (second (row m′ to))) (some t)) none ≡ some x → In x (waiting m′)
-      go true h e = runs (eqb-true (taskOf m′ t .state) runnable h) (holds (running m′ to) t) refl e
-      go false h e = absurd (none-some x e)
-
   -- ---- settled before: limited after
 
   module _ (settled : next m ≡ none) where
     pub limited-touched : Limited m′ (fallenCpu t m m′) (newTask t m m′)
     limited-touched =
         record {
-          small = λ c e. subst (λ (x : ℕ). c < x) (sym (k .n)) (fallen-means c e .1);
-          waits = new-task-waits;
+          small = λ c e. subst (λ (x : ℕ). c < x) (sym (k .n)) (fallen-means t m m′ w w′ c e .1);
+          waits = new-task-waits t m m′ w w′;
           only = λ u c i s a h. only u c (subst (λ (x : ℕ). c < x) (k .n) s) i a h (same? u t);
-          quiet = λ x c u d e f r s n a. quiet x c u d e (fallen-means c f .0) r (subst (λ (x : ℕ). d < x) (k .n) s) n a (same? u t);
+          quiet = λ x c u d e f r s n a. quiet x c u d e (fallen-means t m m′ w w′ c f .0) r (subst (λ (x : ℕ). d < x) (k .n) s) n a (same? u t);
         }
       where
         -- another task that waited found no CPU below it
@@ -298,7 +301,7 @@ module _ (t : ℕ) (m m′ : Machine) (w : WellFormed m) (w′ : WellFormed m′
         only : (u c : ℕ) → c < m .n → In u (waiting m′) → allowed m′ u c ≡ true → level m′ c < levelOf (prioOf m′ u) → (u ≡ t) ⊎ (u ≢ t)
             → (newTask t m m′ ≡ some u) ⊎ (fallenCpu t m m′ ≡ some c)
         only u c s i a h (inl e) =
-            inl (new-waits (subst (λ (x : ℕ). In x (waiting m′)) e i) ∙ ap (λ (x : ℕ). some x) (sym e))
+            inl (new-waits t m m′ w w′ (subst (λ (x : ℕ). In x (waiting m′)) e i) ∙ ap (λ (x : ℕ). some x) (sym e))
         only u c s i a h (inr n) = go (tails-in u (m′ .rows) i)
           where
             go : (d : ℕ) × (d < length (m′ .rows)) × (In u (tail (row m′ d))) → (newTask t m m′ ≡ some u) ⊎ (fallenCpu t m m′ ≡ some c)
@@ -306,7 +309,7 @@ module _ (t : ℕ) (m m′ : Machine) (w : WellFormed m) (w′ : WellFormed m′
               where
                 fell : level m′ c < level m c → (level m c ≤ level m′ c) ⊎ (running m c ≡ some t) → fallenCpu t m m′ ≡ some c
                 fell l (inl o) = absurd (omega arith)
-                fell l (inr r) = fallen-is c r l
+                fell l (inr r) = fallen-is t m m′ w w′ c r l
 
                 no : (b : Bool) → holds (running m (f .0)) t ≡ b → running m (f .0) ≢ some t → second (row m′ (f .0)) ≡ some u
                     → cond b none (second (row m′ (f .0))) ≡ some u
@@ -318,12 +321,12 @@ module _ (t : ℕ) (m m′ : Machine) (w : WellFormed m) (w′ : WellFormed m′
                 pick (inl j) =
                     inr (fell (omega (arith, above u c n (in-tails u (f .0) (m .rows) j) s a)) (levels-touched c s))
                 pick (inr q) =
-                    inl (new-runs (f .0) (q .0) ∙ no (holds (running m (f .0)) t) refl (q .2) (q .1))
+                    inl (new-runs t m m′ w w′ (f .0) (q .0) ∙ no (holds (running m (f .0)) t) refl (q .2) (q .1))
 
         quiet : (x c u d : ℕ) → newTask t m m′ ≡ some x → running m c ≡ some t → running m′ c ≡ some u → d < m .n → d ≢ c → allowed m′ u d ≡ true
             → (u ≡ t) ⊎ (u ≢ t) → levelOf (prioOf m′ u) ≤ level m′ d
         quiet x c u d e r r′ s n a (inl q) =
-            absurd (none-some x (sym (new-runs c (r′ ∙ ap (λ (y : ℕ). some y) q)
+            absurd (none-some x (sym (new-runs t m m′ w w′ c (r′ ∙ ap (λ (y : ℕ). some y) q)
             ∙ ap (λ (b : Bool). cond b none (second (row m′ c))) (some-holds (running m c) t r)) ∙ e))
         quiet x c u d e r r′ s n a (inr o) = go (levels-touched d s)
           where
@@ -332,7 +335,7 @@ module _ (t : ℕ) (m m′ : Machine) (w : WellFormed m) (w′ : WellFormed m′
 
             go : (level m d ≤ level m′ d) ⊎ (running m d ≡ some t) → levelOf (prioOf m′ u) ≤ level m′ d
             go (inl l) = omega (arith, high)
-            go (inr q) = absurd (n (sym (ran-cpu d q) ∙ ran-cpu c r))
+            go (inr q) = absurd (n (sym (ran-cpu t m m′ w w′ d q) ∙ ran-cpu t m m′ w w′ c r))
 
 -- ---- what touches one task
 

@@ -2,7 +2,7 @@
 -- well-formed after each task; the word `up` has the CPUs that are online then.
 -- Assumes nothing.
 use mathlib.Core.Path.{_≡_}
-use mathlib.Core.Bool.{true, false}
+use mathlib.Core.Bool.{false}
 use mathlib.Core.Logic.{_≢_}
 use mathlib.Core.List.{[]}
 use Prim.Native.Nat.{ℕ, _<_}

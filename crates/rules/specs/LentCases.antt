@@ -154,9 +154,15 @@ w6 =
     ∷ badRecord (lentRecord (4 ∷ 2 ∷ replicate 99 0 ++ 1 ∷ []) (1 ∷ 1 ∷ replicate 99 0 ++ 1 ∷ []) (3 ∷ 2 ^ 37 ∷ []) (101 ∷ 1 ∷ 0 ∷ replicate 61 255))
     ∷ checking 2 (withEntry Column.prio 0 98 (withEntry Column.prio 1 98 lent2)) ∷ checking 2 (withFlags (0 ∷ 0 ∷ []) lent2) ∷ []
 
+-- all tasks of it asleep
+abbrev pub quiet2 : Tables
+quiet2 = withRows (replicate 1024 65535) (0 ∷ 0 ∷ []) (withEntry Column.state 0 1 (withEntry Column.state 1 1 lent2))
+
 -- L8: "Refusal 2 also covers an online mask of 0 or with bits at N or above"
 abbrev pub onlineMasks : List LentCase
-onlineMasks = checking 2 (withUp 0 lent2) ∷ checking 2 (withUp 4 lent2) ∷ checking 2 (withUp 7 lent2) ∷ []
+onlineMasks =
+    checking 2 (withUp 0 lent2) ∷ checking 2 (withUp 4 lent2) ∷ checking 2 (withUp 7 lent2)
+    ∷ answers 0 check 2 (atLevels 255 1) (withUp 2 quiet2) ∷ answers 2 check 2 (atLevels 255 255) (withUp 0 quiet2) ∷ []
 
 -- "An offline CPU has an empty row and level INVALID": CPU 1 may be offline, at INVALID and at no other level, with its flag; CPU 0 has tasks, whatever
 -- its level says; and INVALID is held "for offline CPUs only"

@@ -18,7 +18,7 @@ use Rattle.rules.specs.Machine.{Machine, row, levels, taskPlaces, cpuPlaces}
 use Rattle.laws.proofs.Apart.{in-row, runnable-place}
 use Rattle.laws.proofs.Lists.{some-any, in-getD}
 use Rattle.runqueue.specs.Table.{HoldsRows, rowAt}
-use Rattle.runqueue.proofs.Flat.{count-is, rows-fit, lentPart, lent-row, lent-held}
+use Rattle.runqueue.proofs.Flat.{rows-fit, lentPart, lent-row, lent-held}
 use Rattle.placement.specs.Held.{Held}
 use Rattle.placement.proofs.Order.{well-formed-order, holds, read-row, cpus-counted}
 use Rattle.plans.specs.Decided.{strands}

@@ -68,6 +68,7 @@ impl Side for ByHand {
             rows: t.rows.concat(),
             counts: t.counts,
             flags: t.flags,
+            online: t.online,
             log: t.log.concat(),
             level_masks: r.masks.to_vec(),
             level_counts: r.counts.to_vec(),
@@ -113,11 +114,12 @@ fn tables(t: &Tables) -> plain::Tables {
         rows: t.rows.chunks(TASKS).map(row).collect(),
         counts: t.counts,
         flags: t.flags,
+        online: t.online,
         log: t.log.chunks(LOG_WIDTH).map(entry).collect(),
     }
 }
 
-/// Copies the full slice and every table in place.
+/// Copies the full slice, the online mask and every table in place.
 fn copy(from: &plain::Tables, to: &mut plain::Tables) {
     to.full_slice = from.full_slice;
     to.state.copy_from_slice(&from.state);
@@ -129,5 +131,6 @@ fn copy(from: &plain::Tables, to: &mut plain::Tables) {
     to.rows.copy_from_slice(&from.rows);
     to.counts.copy_from_slice(&from.counts);
     to.flags.copy_from_slice(&from.flags);
+    to.online = from.online;
     to.log.copy_from_slice(&from.log);
 }

@@ -76,8 +76,9 @@ fn three(scene: &Scene) -> Vec<Box<dyn Side>> {
 fn bytes(n: usize) -> usize {
     let column_bytes = TASKS * (1 + 1 + 1 + 1 + 2 + 8);
     let row_bytes = n * (2 * TASKS + 2 + 1);
+    let online_bytes = 8;
     let record_bytes = LEVELS * (8 + 1) + WORDS * 8 + CPUS;
-    column_bytes + row_bytes + record_bytes
+    column_bytes + row_bytes + online_bytes + record_bytes
 }
 
 pub fn check(run: &mut Run) {

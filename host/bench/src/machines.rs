@@ -7,10 +7,12 @@ const ADD: u32 = 1;
 const WAKE: u32 = 3;
 const SLEEP: u32 = 4;
 const PRIORITY: u32 = 5;
-const AFFINITY: u32 = 6;
+pub const AFFINITY: u32 = 6;
 const TICK: u32 = 7;
 const YIELD: u32 = 8;
 const ORDINARY: u32 = 9;
+pub const OFFLINE: u32 = 10;
+pub const ONLINE: u32 = 11;
 
 /// How many events of a mix are timed at once.
 const MIXED: usize = 256;
@@ -30,7 +32,7 @@ impl Scene {
     }
 }
 
-fn event(kind: u32, who: usize) -> Event {
+pub fn event(kind: u32, who: usize) -> Event {
     Event {
         kind,
         who: who as u32,
@@ -40,22 +42,22 @@ fn event(kind: u32, who: usize) -> Event {
     }
 }
 
-fn full(n: usize) -> u64 {
+pub fn full(n: usize) -> u64 {
     u64::MAX >> (64 - n)
 }
 
-fn accept(t: &mut Tables, e: Event) {
+pub fn accept(t: &mut Tables, e: Event) {
     let answer = t.event(e).answer;
     assert_eq!(answer, 0, "{e:?}");
 }
 
 /// With document 01's full slice.
-fn fresh(n: usize) -> Tables {
+pub fn fresh(n: usize) -> Tables {
     Tables::fresh_with_slice(n, 100).expect("1 to 64 CPUs")
 }
 
 /// Adds a task and wakes it.
-fn put(t: &mut Tables, who: usize, policy: u32, prio: usize, mask: u64) {
+pub fn put(t: &mut Tables, who: usize, policy: u32, prio: usize, mask: u64) {
     add(t, who, policy, prio, mask);
     accept(t, event(WAKE, who));
 }
@@ -175,7 +177,10 @@ pub fn yields() -> Scene {
     }
 }
 
-/// CPUs that fall idle in `draws`.
+/// As many as 64 CPUs and 512 tasks allow in `draws` and `returns`.
+pub const WAITING: usize = 8;
+
+/// CPUs that fall idle in `draws`, or come back in `returns`.
 const FALLING: usize = 8;
 
 /// 64 CPUs, of which the first 8 run one task each, and on each of the others so many tasks wait. The first 8 tasks go to
@@ -183,7 +188,24 @@ const FALLING: usize = 8;
 /// `drawn` the last one of the last CPU may use the idle one and goes there.
 pub fn draws(waiting: usize, drawn: bool) -> Scene {
     let mut t = fresh(64);
-    for c in 0..64 {
+    for c in 0..FALLING {
+        put(&mut t, c, 1, 60, 1 << c);
+    }
+    drawing(t, waiting, drawn, SLEEP)
+}
+
+/// The same where the first 8 CPUs are offline, and come back.
+pub fn returns(waiting: usize, drawn: bool) -> Scene {
+    let mut t = fresh(64);
+    for c in 0..FALLING {
+        accept(&mut t, event(OFFLINE, c));
+    }
+    drawing(t, waiting, drawn, ONLINE)
+}
+
+/// The other CPUs of these, and an event of the kind for each of the first 8.
+fn drawing(mut t: Tables, waiting: usize, drawn: bool, kind: u32) -> Scene {
+    for c in FALLING..64 {
         put(&mut t, c, 1, 60, 1 << c);
     }
     for i in 0..waiting * (64 - FALLING) {
@@ -197,7 +219,7 @@ pub fn draws(waiting: usize, drawn: bool) -> Scene {
         };
         accept(&mut t, e);
     }
-    let events: Vec<Event> = (0..FALLING).rev().map(|c| event(SLEEP, c)).collect();
+    let events: Vec<Event> = (0..FALLING).rev().map(|c| event(kind, c)).collect();
     let mut after = t.clone();
     for &e in &events {
         assert_eq!(after.event(e).moves, u32::from(drawn));

@@ -3,7 +3,9 @@
 mod by_hand;
 mod finder;
 mod grid;
+mod hotplug;
 mod keep;
+mod leaving;
 mod machines;
 mod ours;
 mod rng;
@@ -23,7 +25,7 @@ use std::process::ExitCode;
 use timing::{Effort, Run};
 
 const HELP: &str = "\
-bench [--quick | --once] [--only N,TASKS] [--keep FILE] [SECTION...]
+bench [--quick | --once] [--only N,TASKS] [--case TEXT] [--keep FILE] [SECTION...]
 
 Times the proved library against the same scheduler in plain Rust and against
 the second scheduler, and prints tables with the time of one call and ratios.
@@ -36,11 +38,13 @@ Sections, all if none is named:
   event   an event with its check, in a mix of events
   inner   the same mix without the check
   worst   inner events that cost the most
+  hotplug inner events that take a CPU offline or bring it back
   find    the finder
 
   --quick         a few seconds, and less exact
   --once          each row once, for a tool that counts instructions
   --only N,TASKS  of check, event and inner the one row
+  --case TEXT     of hotplug the rows whose names begin so
   --keep FILE     show the shortest times of this run and of all earlier ones with
                   this file, and the ratios that single runs had. Each should be
                   a build with another BENCH_SEED: where the linker puts a short
@@ -49,11 +53,12 @@ Sections, all if none is named:
 
 type Section = (&'static str, fn(&mut Run));
 
-const SECTIONS: [Section; 5] = [
+const SECTIONS: [Section; 6] = [
     ("check", grid::check),
     ("event", grid::event),
     ("inner", grid::inner),
     ("worst", worst::worst),
+    ("hotplug", hotplug::hotplug),
     ("find", finder::find),
 ];
 
@@ -62,6 +67,7 @@ const SECTIONS: [Section; 5] = [
 struct Command {
     help: bool,
     effort: Effort,
+    case: String,
     keep: Option<PathBuf>,
     sections: Vec<Section>,
 }
@@ -72,6 +78,7 @@ fn command(args: impl Iterator<Item = String>) -> Result<Command, String> {
     let mut asked = Command {
         help: false,
         effort: Effort::FULL,
+        case: String::new(),
         keep: None,
         sections: Vec::new(),
     };
@@ -81,6 +88,7 @@ fn command(args: impl Iterator<Item = String>) -> Result<Command, String> {
             "--quick" => asked.effort = Effort::QUICK,
             "--once" => asked.effort = Effort::ONCE,
             "--only" => only = Some(size(args.next())?),
+            "--case" => asked.case = args.next().ok_or("--case: which?")?,
             "--keep" => asked.keep = Some(args.next().ok_or("--keep: which file?")?.into()),
             name => asked.sections.push(section(name)?),
         }
@@ -115,6 +123,7 @@ fn run(asked: Command) -> io::Result<()> {
     }
     let mut run = Run {
         effort: asked.effort,
+        case: asked.case,
         keep: Keep::open(asked.keep)?,
     };
     for (_, section) in asked.sections {

@@ -35,6 +35,8 @@ impl Effort {
 /// A run of the benchmark.
 pub struct Run {
     pub effort: Effort,
+    /// How the names of the cases begin that are timed, where cases can be chosen.
+    pub case: String,
     pub keep: Keep,
 }
 

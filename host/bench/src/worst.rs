@@ -2,14 +2,11 @@
 
 use crate::grid::{against_plain, two, SIDES};
 use crate::keep::Row;
-use crate::machines::{chain, draws, full_row, yields, Scene};
+use crate::machines::{chain, draws, full_row, yields, Scene, WAITING};
 use crate::say::say;
 use crate::side::Work;
 use crate::table::Table;
 use crate::timing::Run;
-
-/// As many as 64 CPUs and 512 tasks allow in `draws`.
-const WAITING: usize = 8;
 
 pub fn worst(run: &mut Run) {
     say("Inner event, worst cases, ns an event\n");

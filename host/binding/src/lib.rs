@@ -2,8 +2,8 @@
 //!
 //! The tables are vectors, so that any length can be lent.
 
-/// Declares an entry that is handed the numbers of the machine that are named first, then lent the fourteen tables, `mut` or
-/// `const`, and then handed what is named after them.
+/// Declares an entry that is handed the numbers of the machine that are named first, then lent the fourteen tables and the
+/// online mask, `mut` or `const`, and then handed what is named after them.
 #[macro_export]
 macro_rules! entry {
     ($name:ident($($number:ident: $width:ty),*), $pointer:tt $(, $more:ident: $type:ty)*) => {
@@ -28,6 +28,7 @@ macro_rules! entry {
                 counts_len: usize,
                 flags: *$pointer u8,
                 flags_len: usize,
+                online: *$pointer u64,
                 log: *$pointer u16,
                 log_len: usize,
                 level_masks: *$pointer u64,
@@ -45,7 +46,7 @@ macro_rules! entry {
 }
 
 /// Calls such an entry: the machine's numbers are fields of the tables, and each table is lent as its pointer, from `as_ptr`
-/// or `as_mut_ptr`, and its length.
+/// or `as_mut_ptr`, and its length; the online mask is lent as its pointer alone.
 #[macro_export]
 macro_rules! lend {
     ($name:ident($($number:ident),*), $tables:expr, $pointer:ident $(, $more:expr)*) => {
@@ -69,6 +70,7 @@ macro_rules! lend {
             $tables.counts.len(),
             $tables.flags.$pointer(),
             $tables.flags.len(),
+            $crate::word!($tables.online, $pointer),
             $tables.log.$pointer(),
             $tables.log.len(),
             $tables.level_masks.$pointer(),
@@ -81,6 +83,17 @@ macro_rules! lend {
             $tables.levels.len(),
             $($more),*
         )
+    };
+}
+
+/// A reference to a word, as the methods of vectors give pointers.
+#[macro_export]
+macro_rules! word {
+    ($word:expr, as_ptr) => {
+        &$word
+    };
+    ($word:expr, as_mut_ptr) => {
+        &mut $word
     };
 }
 
@@ -126,7 +139,7 @@ pub const LOG_WIDTH: usize = 4;
 pub const LOG: usize = LOG_ENTRIES * LOG_WIDTH;
 /// An unused place of a row, and each number of a fresh log.
 pub const NOTHING: u16 = 65535;
-/// The level of a CPU that is not there, and of a search that finds nothing.
+/// The level of a CPU that is not there or is offline, and of a search that finds nothing.
 pub const INVALID: u8 = 255;
 /// Ticks of a full slice: the least, the most, and those of a machine for which none are named.
 pub const SLICE_MIN: u32 = 1;
@@ -190,7 +203,7 @@ pub struct Found {
     pub mask: u64,
 }
 
-/// A machine's number of CPUs, its full slice in ticks and its fourteen tables: any numbers, and any lengths.
+/// A machine's number of CPUs, its full slice in ticks, its fourteen tables and its online mask: any numbers, and any lengths.
 #[derive(Clone, Debug, PartialEq, Eq)]
 pub struct Tables {
     pub n: usize,
@@ -204,6 +217,7 @@ pub struct Tables {
     pub rows: Vec<u16>,
     pub counts: Vec<u16>,
     pub flags: Vec<u8>,
+    pub online: u64,
     pub log: Vec<u16>,
     pub level_masks: Vec<u64>,
     pub level_counts: Vec<u8>,
@@ -228,6 +242,7 @@ impl Tables {
             rows: vec![0; TASKS * cpus],
             counts: vec![0; cpus],
             flags: vec![0; cpus],
+            online: 0,
             log: vec![0; LOG],
             level_masks: vec![0; LEVELS],
             level_counts: vec![0; LEVELS],
@@ -258,8 +273,8 @@ impl Tables {
     /// Makes the tables a fresh machine's, with the full slice that they have.
     pub fn make_fresh(&mut self) -> Made {
         let mut full_slice = UNWRITTEN;
-        // Safety: each pointer is a vector's own, with its length, and no two vectors overlap; `full_slice` is a local of
-        // this function.
+        // Safety: each pointer is a vector's own, with its length, or the online mask's, and no two overlap; `full_slice` is a
+        // local of this function.
         let answer = unsafe {
             lend!(
                 qoriwesh_make_fresh(n, full_slice),
@@ -350,6 +365,11 @@ impl Tables {
             to: entry[2],
             displaced: entry[3],
         })
+    }
+
+    /// Whether CPU `c` is online.
+    pub fn is_online(&self, c: usize) -> bool {
+        c < CPUS && self.online >> c & 1 == 1
     }
 
     /// The tasks of CPU `c`'s row, in run order. Of well-formed tables.

@@ -1,5 +1,6 @@
 //! One call of a public entry, and its answer.
 
+use crate::hotplug::WAYS;
 use binding::Event;
 use std::cmp::Ordering;
 use std::fmt;
@@ -47,6 +48,8 @@ pub struct Agreed {
     pub among_equals: Option<Ordering>,
     /// A tick that gave a task a full slice.
     pub refilled: bool,
+    /// Which of `WAYS` it was.
+    pub hotplug: [bool; WAYS.len()],
 }
 
 impl Answer {

@@ -1,6 +1,7 @@
 //! What a run has done, and the least it must have done.
 
 use crate::call::{Agreed, Call, Inner};
+use crate::hotplug::WAYS;
 use std::fmt;
 
 #[derive(Clone, Debug)]
@@ -8,17 +9,19 @@ pub struct Counters {
     pub calls: u64,
     pub cases: u64,
     /// By entry and answer.
-    pub answers: [[u64; 10]; ENTRIES.len()],
+    pub answers: [[u64; NUMBERS]; ENTRIES.len()],
     /// Refused with 1 for the full slice alone, by entry.
     pub slice_alone: [u64; ENTRIES.len()],
     /// By kind of event.
-    pub accepted: [u64; 10],
+    pub accepted: [u64; KINDS + 1],
     /// Adds accepted with a full slice other than 100, the number that document 01 has.
     pub added_other: u64,
     /// Ticks that gave a task a full slice: with each of `SLICES`, and with others.
     pub refilled: [u64; SLICES.len() + 1],
     /// New priorities for a runnable task that has others of this priority in its row: lowered, unchanged, raised.
     pub among_equals: [u64; 3],
+    /// By each of `WAYS`.
+    pub hotplug: [u64; WAYS.len()],
     /// By number of moves.
     pub moves: [u64; 64],
     /// Events also run without their check, on any machine; and on settled ones, told so, with the accepted of these by
@@ -36,12 +39,13 @@ impl Default for Counters {
         Counters {
             calls: 0,
             cases: 0,
-            answers: [[0; 10]; ENTRIES.len()],
+            answers: [[0; NUMBERS]; ENTRIES.len()],
             slice_alone: [0; ENTRIES.len()],
-            accepted: [0; 10],
+            accepted: [0; KINDS + 1],
             added_other: 0,
             refilled: [0; SLICES.len() + 1],
             among_equals: [0; 3],
+            hotplug: [0; WAYS.len()],
             moves: [0; 64],
             inner: 0,
             settled: 0,
@@ -54,6 +58,10 @@ impl Default for Counters {
 
 const ENTRIES: [&str; 5] = ["make_fresh", "make_fresh_default", "check", "event", "find"];
 
+/// Answers are 0 to 12, and kinds of events 1 to 11.
+const NUMBERS: usize = 13;
+const KINDS: usize = 11;
+
 /// The entries' numbers.
 pub const MAKE_FRESH: usize = 0;
 pub const MAKE_FRESH_DEFAULT: usize = 1;
@@ -62,7 +70,7 @@ pub const EVENT: usize = 3;
 pub const FIND: usize = 4;
 
 /// Every refusal there is: entry, number.
-pub const REFUSALS: [(usize, usize); 17] = [
+pub const REFUSALS: [(usize, usize); 20] = [
     (MAKE_FRESH, 1),
     (MAKE_FRESH_DEFAULT, 1),
     (CHECK, 1),
@@ -76,6 +84,9 @@ pub const REFUSALS: [(usize, usize); 17] = [
     (EVENT, 7),
     (EVENT, 8),
     (EVENT, 9),
+    (EVENT, 10),
+    (EVENT, 11),
+    (EVENT, 12),
     (FIND, 1),
     (FIND, 2),
     (FIND, 7),
@@ -115,6 +126,9 @@ impl Counters {
             let own = SLICES.iter().position(|&slice| slice == agreed.full_slice);
             self.refilled[own.unwrap_or(SLICES.len())] += 1;
         }
+        for (times, is) in self.hotplug.iter_mut().zip(agreed.hotplug) {
+            *times += u64::from(is);
+        }
         self.inner += u64::from(agreed.inner != Inner::No);
         if agreed.inner == Inner::Settled {
             self.settled += 1;
@@ -122,8 +136,8 @@ impl Counters {
         }
     }
 
-    /// Each refusal, each kind's acceptance and each way of a new priority among equals was reached so often, and 63 moves
-    /// once; else what was not, in words.
+    /// Each refusal, each kind's acceptance, each way of a new priority among equals and each with CPUs offline was reached so
+    /// often, and 63 moves once; else what was not, in words.
     pub fn reached(&self, least: u64) -> Result<(), String> {
         for (entry, number) in REFUSALS {
             let times = self.answers[entry][number];
@@ -132,7 +146,7 @@ impl Counters {
                 return Err(format!("{entry} refused with {number} only {times} times"));
             }
         }
-        for kind in 1..=9 {
+        for kind in 1..=KINDS {
             let times = self.accepted[kind];
             if times < least {
                 return Err(format!("kind {kind} was accepted only {times} times"));
@@ -144,6 +158,11 @@ impl Counters {
         {
             if times < least {
                 return Err(format!("among equals {way} only {times} times"));
+            }
+        }
+        for ((way, _), times) in WAYS.iter().zip(self.hotplug) {
+            if times < least {
+                return Err(format!("{way} only {times} times"));
             }
         }
         self.slices_reached(least)?;
@@ -225,6 +244,7 @@ impl Counters {
         add_each(&mut self.accepted, &other.accepted);
         add_each(&mut self.refilled, &other.refilled);
         add_each(&mut self.among_equals, &other.among_equals);
+        add_each(&mut self.hotplug, &other.hotplug);
         add_each(&mut self.moves, &other.moves);
         add_each(&mut self.settled_moves, &other.settled_moves);
     }
@@ -240,13 +260,13 @@ impl fmt::Display for Counters {
     fn fmt(&self, f: &mut fmt::Formatter) -> fmt::Result {
         writeln!(f, "  {} calls in {} cases", self.calls, self.cases)?;
         for (entry, name) in ENTRIES.iter().enumerate() {
-            let some = (0..10).filter(|&i| self.answers[entry][i] > 0);
+            let some = (0..NUMBERS).filter(|&i| self.answers[entry][i] > 0);
             let list: Vec<String> = some
                 .map(|i| format!("{i}: {}", self.answers[entry][i]))
                 .collect();
             writeln!(f, "  {name} answered {}", list.join(", "))?;
         }
-        let kinds: Vec<String> = (1..10)
+        let kinds: Vec<String> = (1..=KINDS)
             .map(|k| format!("{k}: {}", self.accepted[k]))
             .collect();
         writeln!(f, "  accepted by kind {}", kinds.join(", "))?;
@@ -256,6 +276,11 @@ impl fmt::Display for Counters {
             f,
             "  new priorities among equals: lowered {lowered}, unchanged {unchanged}, raised {raised}"
         )?;
+        let ways = WAYS.iter().zip(self.hotplug);
+        let ways: Vec<String> = ways
+            .map(|((way, _), times)| format!("{way}: {times}"))
+            .collect();
+        writeln!(f, "  {}", ways.join("\n  "))?;
         writeln!(f, "  finder found {}, none {}", self.found, self.found_none)?;
         writeln!(f, "  events by moves {}", by_moves(&self.moves))?;
         let (inner, settled) = (self.inner, self.settled);
@@ -318,12 +343,13 @@ mod tests {
     /// A run in which all came up so often.
     fn all(times: u64) -> Counters {
         Counters {
-            answers: [[times; 10]; ENTRIES.len()],
+            answers: [[times; NUMBERS]; ENTRIES.len()],
             slice_alone: [times; ENTRIES.len()],
-            accepted: [times; 10],
+            accepted: [times; KINDS + 1],
             added_other: times,
             refilled: [times; SLICES.len() + 1],
             among_equals: [times; 3],
+            hotplug: [times; WAYS.len()],
             moves: [times; 64],
             inner: times,
             settled: times,
@@ -361,5 +387,20 @@ mod tests {
         assert_eq!(said(|c| c.added_other = 8), words);
         let words = "make_fresh_default refused with 1 only 8 times";
         assert_eq!(said(|c| c.answers[MAKE_FRESH_DEFAULT][1] = 8), words);
+    }
+
+    #[test]
+    fn each_way_with_cpus_offline_is_asked_for() {
+        for (i, (way, _)) in WAYS.iter().enumerate() {
+            assert_eq!(said(|c| c.hotplug[i] = 8), format!("{way} only 8 times"));
+        }
+        for number in 10..=12 {
+            let words = format!("event refused with {number} only 8 times");
+            assert_eq!(said(|c| c.answers[EVENT][number] = 8), words);
+        }
+        for kind in 10..=11 {
+            let words = format!("kind {kind} was accepted only 8 times");
+            assert_eq!(said(|c| c.accepted[kind] = 8), words);
+        }
     }
 }

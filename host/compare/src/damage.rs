@@ -1,9 +1,10 @@
 //! What can be done to good tables.
 
+use crate::generate::full;
 use crate::plan::enter_level;
 use crate::rng::Rng;
-use crate::tables::{get, len, resize, right_lengths, set, COUNT, NAMES, SLICE};
-use binding::{Tables, CPUS, LEVELS, NOTHING, TASKS};
+use crate::tables::{get, len, resize, right_lengths, set, COUNT, LENT, NAMES, ONLINE, SLICE};
+use binding::{Tables, CPUS, INVALID, LEVELS, NOTHING, TASKS};
 use std::fmt;
 
 #[derive(Clone, Debug, PartialEq, Eq)]
@@ -27,6 +28,8 @@ pub enum Damage {
         cpu: usize,
         level: u8,
     },
+    /// Another online mask, and each CPU at the level that it then has: tasks may be left in the row of an offline one.
+    Replug(u64),
     /// Two places of one row change their tasks.
     Swap {
         cpu: usize,
@@ -63,6 +66,7 @@ impl Damage {
             Damage::FullSlice(full_slice) => t.full_slice = full_slice,
             _ if !right_lengths(t) => (),
             Damage::Relevel { cpu, level } => relevel(t, cpu, level),
+            Damage::Replug(online) => replug(t, online),
             Damage::Swap { cpu, i, j } => t.rows.swap(TASKS * cpu + i, TASKS * cpu + j),
             Damage::Append { cpu, task } => append(t, cpu, task),
             Damage::Drop { cpu } => drop_last(t, cpu),
@@ -74,14 +78,38 @@ impl Damage {
 fn relevel(t: &mut Tables, cpu: usize, level: u8) {
     let mut levels = t.levels.clone();
     levels[cpu] = level;
+    make_record(t, &levels);
+}
+
+/// The record of these levels of 64 CPUs.
+fn make_record(t: &mut Tables, levels: &[u8]) {
     t.level_masks.fill(0);
     t.level_counts.fill(0);
     t.level_words.fill(0);
-    t.levels.copy_from_slice(&levels);
+    t.levels.copy_from_slice(levels);
     for (c, &l) in levels.iter().enumerate() {
         if (l as usize) < LEVELS {
             enter_level(t, c, l);
         }
+    }
+}
+
+fn replug(t: &mut Tables, online: u64) {
+    t.online = online;
+    let level = |c: usize| match c < t.n && t.is_online(c) {
+        true => level_by_row(t, c),
+        false => INVALID,
+    };
+    let levels: Vec<u8> = (0..CPUS).map(level).collect();
+    make_record(t, &levels);
+}
+
+/// The level that the first task or the flag gives, whatever they are.
+fn level_by_row(t: &Tables, cpu: usize) -> u8 {
+    let first = t.rows[TASKS * cpu] as usize;
+    match t.prio.get(first) {
+        Some(prio) if t.counts[cpu] > 0 => prio.saturating_add(2),
+        _ => t.flags[cpu],
     }
 }
 
@@ -173,7 +201,7 @@ fn other_number(rng: &mut Rng, t: &Tables) -> Damage {
 pub fn wrong_number(rng: &mut Rng, t: &Tables) -> Damage {
     let cpu = rng.below(t.n);
     let count = (t.counts[cpu] as usize).clamp(1, TASKS);
-    match rng.below(18) {
+    match rng.below(22) {
         0 => Damage::Relevel {
             cpu: rng.below(CPUS),
             level: rng.pick(&[0, 1, 2, 3, 52, 63, 64, 101, 102, 254, 255]),
@@ -201,9 +229,41 @@ pub fn wrong_number(rng: &mut Rng, t: &Tables) -> Damage {
             prio: rng.within(0, 100) as u8,
         },
         8 => word_bit(rng, t),
-        9..=12 => task_column(rng, t),
+        9..=13 => task_column(rng, t),
+        14 | 15 => Damage::Replug(other_online(rng, t)),
+        16 => Damage::Set {
+            table: ONLINE,
+            index: 0,
+            value: other_online(rng, t),
+        },
+        17 => offline_level(rng, t),
         _ => other_number(rng, t),
     }
+}
+
+/// An online mask of no CPU, with bits at N or above, or with one CPU or some the other way.
+fn other_online(rng: &mut Rng, t: &Tables) -> u64 {
+    let past = 1u64.checked_shl(t.n as u32).unwrap_or(0);
+    let above = !full(t.n) & rng.bits();
+    let one = 1u64 << rng.below(t.n);
+    match rng.below(8) {
+        0 => 0,
+        1 => rng.pick(&[past, above, !full(t.n)]),
+        2 => t.online | rng.pick(&[past, above, 1 << 63]),
+        3..=5 => t.online ^ one,
+        6 => one,
+        _ => rng.bits() & full(t.n),
+    }
+}
+
+/// An offline CPU at a level, or an online one at INVALID.
+fn offline_level(rng: &mut Rng, t: &Tables) -> Damage {
+    let cpu = rng.below(t.n);
+    let level = match t.is_online(cpu) {
+        true => INVALID,
+        false => rng.pick(&[t.flags[cpu], 0, 1, 52, 101]),
+    };
+    Damage::Relevel { cpu, level }
 }
 
 /// One of the word bits 102 to 127 too many, or another bit changed.
@@ -258,7 +318,7 @@ pub fn wrong_size(rng: &mut Rng, t: &Tables) -> Damage {
     if rng.percent(25) {
         return Damage::Cpus(other_n(rng, t.n));
     }
-    let table = rng.below(COUNT);
+    let table = rng.below(LENT);
     let right = len(t, table);
     let lengths = [
         0,
@@ -338,6 +398,7 @@ impl fmt::Display for Damage {
             Damage::Resize { table, len } => write!(f, "{} has length {len}", NAMES[*table]),
             Damage::Cpus(n) => write!(f, "N := {n}"),
             Damage::FullSlice(full_slice) => write!(f, "full slice := {full_slice}"),
+            Damage::Replug(online) => write!(f, "online := {online:#x}, and the levels by it"),
             other => write!(f, "{other:?}"),
         }
     }

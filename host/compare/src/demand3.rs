@@ -3,14 +3,38 @@
 
 use binding::{Event, Tables, TASKS};
 
-/// What must be remembered from before the event: each task's CPU.
+/// What must be remembered from before the event: each task's CPU, and which CPUs are online.
 pub struct Before {
     cpu: Vec<u8>,
+    online: u64,
 }
 
 impl Before {
     pub fn of(t: &Tables) -> Before {
-        Before { cpu: t.cpu.clone() }
+        Before {
+            cpu: t.cpu.clone(),
+            online: t.online,
+        }
+    }
+
+    /// "the online mask after the event's own effect"
+    fn online_then(&self, e: Event) -> u64 {
+        match e.kind {
+            10 => self.online & !(1 << e.who),
+            11 => self.online | 1 << e.who,
+            _ => self.online,
+        }
+    }
+
+    /// Where a task stands after the event's own effect, if that is not its own event: of a CPU that goes offline, "its
+    /// tasks leave [...], each entering the lowest-numbered allowed online CPU".
+    fn stands(&self, task: usize, e: Event, after: &Tables) -> usize {
+        let cpu = self.cpu[task] as usize;
+        let leaves = e.kind == 10 && e.who as usize == cpu && after.state[task] == 2;
+        match leaves {
+            true => (after.mask[task] & self.online_then(e)).trailing_zeros() as usize,
+            false => cpu,
+        }
     }
 }
 
@@ -23,8 +47,16 @@ struct Move {
 
 /// The first part that fails, in words.
 pub fn check(before: &Before, e: Event, moves: u32, after: &Tables) -> Result<(), String> {
-    if moves as usize >= after.n {
-        return Err(format!("{moves} migrations on {} CPUs", after.n));
+    let online = before.online_then(e);
+    if after.online != online {
+        let here = after.online;
+        return Err(format!(
+            "the online mask is {here:#x}, and must be {online:#x}"
+        ));
+    }
+    if moves >= online.count_ones() {
+        let cpus = online.count_ones();
+        return Err(format!("{moves} migrations on {cpus} online CPUs"));
     }
     let log: Vec<Move> = after.moves(moves).map(Move::from).collect();
     entries_sound(&log, before, e, after)?;
@@ -48,24 +80,29 @@ impl From<binding::Move> for Move {
 }
 
 /// "count = number of log entries, in order": each of the first `moves` entries is a move that took place, and
-/// no CPU changed without one. The event's own task may have changed its CPU before it moved.
+/// no CPU changed without one. The event's own task may have changed its CPU before it moved, and so have the tasks of a
+/// CPU that goes offline.
 fn entries_sound(log: &[Move], before: &Before, e: Event, after: &Tables) -> Result<(), String> {
     for (i, m) in log.iter().enumerate() {
         if m.task >= TASKS || m.from >= after.n || m.to >= after.n || m.from == m.to {
             return Err(format!("log entry {i} is no move"));
         }
+        if !(after.is_online(m.from) && after.is_online(m.to)) {
+            return Err(format!("log entry {i} has an offline CPU"));
+        }
     }
     for task in 0..TASKS {
         let own = (1..=6).contains(&e.kind) && e.who as usize == task;
         let cpu = after.cpu[task] as usize;
+        let stood = before.stands(task, e, after);
         match log.iter().find(|m| m.task == task) {
             Some(m) if m.to != cpu => {
                 return Err(format!("task {task} is not where the log says it went"))
             }
-            Some(m) if !own && m.from != before.cpu[task] as usize => {
+            Some(m) if !own && m.from != stood => {
                 return Err(format!("task {task} was not where the log says it waited"))
             }
-            None if !own && cpu != before.cpu[task] as usize => {
+            None if !own && cpu != stood => {
                 return Err(format!("task {task} moved without a log entry"))
             }
             _ => (),
@@ -139,7 +176,7 @@ fn each_stands_once(after: &Tables) -> Result<(), String> {
     }
 }
 
-/// "afterwards no waiting task outranks what runs on any CPU it is allowed"
+/// "afterwards no waiting task outranks what runs on any" online "CPU it is allowed"
 fn nobody_outranks(after: &Tables) -> Result<(), String> {
     let prio = |task: u16| after.prio[task as usize];
     // An empty row runs ordinary work or nothing, which every task outranks.
@@ -148,7 +185,7 @@ fn nobody_outranks(after: &Tables) -> Result<(), String> {
         .collect();
     for c in 0..after.n {
         for &task in after.row(c).iter().skip(1) {
-            let mask = after.mask[task as usize];
+            let mask = after.mask[task as usize] & after.online;
             let outranked = |&d: &usize| mask >> d & 1 == 1 && running[d] < prio(task);
             if let Some(d) = (0..after.n).find(outranked) {
                 return Err(format!(

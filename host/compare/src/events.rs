@@ -1,10 +1,15 @@
 //! Random calls: such as a scheduler would see, and such as it should refuse.
 
+mod hotplug;
+
+pub use hotplug::take_offline;
+
 use crate::call::Call;
 use crate::generate::{full, Style};
 use crate::rng::Rng;
 use crate::tables::ticks_left;
 use binding::{Event, Tables};
+use hotplug::{go_or_come, mostly_online, nowhere, past_offline, wrong_side};
 
 /// The next call of a run. `pool` are the task numbers in use.
 pub fn call(rng: &mut Rng, t: &Tables, style: &Style, pool: &[u16]) -> Call {
@@ -25,7 +30,7 @@ pub fn plausible(rng: &mut Rng, t: &Tables, style: &Style, pool: &[u16]) -> Even
     }
     let who = rng.pick(pool);
     let kind = match t.state.get(who as usize) {
-        _ if rng.percent(30) => rng.pick(&[7, 7, 7, 8, 9]),
+        _ if rng.percent(30) => rng.pick(&[7, 7, 7, 8, 9, 9]),
         Some(0) => rng.pick(&[1, 1, 1, 1, 1, 1, 1, 3, 5]),
         Some(1) => rng.pick(&[2, 3, 3, 3, 3, 3, 3, 5, 6]),
         _ => rng.pick(&[3, 4, 4, 4, 5, 5, 5, 6, 6, 6]),
@@ -40,7 +45,8 @@ pub fn plausible(rng: &mut Rng, t: &Tables, style: &Style, pool: &[u16]) -> Even
     };
     match kind {
         1 => e.a = u32::from(style.policy(rng)),
-        7..=9 => e.who = rng.below(style.n) as u32,
+        7 | 8 => e.who = mostly_online(rng, t) as u32,
+        9 => e.who = rng.below(style.n) as u32,
         _ => (),
     }
     match kind {
@@ -54,29 +60,36 @@ pub fn plausible(rng: &mut Rng, t: &Tables, style: &Style, pool: &[u16]) -> Even
     e
 }
 
-/// Now and then an event for what would come up seldom: a new priority among equals, or a tick where a slice ends soonest.
+/// Now and then an event for what would come up seldom: a CPU that goes offline or comes back, a mask that begins with an
+/// offline CPU, a new priority among equals, or a tick where a slice ends soonest.
 fn seldom(rng: &mut Rng, t: &Tables) -> Option<Event> {
+    match rng.below(50) {
+        0..=5 => return Some(go_or_come(rng, t)),
+        6 | 7 => return past_offline(rng, t),
+        _ => (),
+    }
     let shared: Vec<usize> = (0..t.n).filter(|&cpu| t.counts[cpu] > 1).collect();
     if !shared.is_empty() && rng.percent(10) {
         let row = t.row(rng.pick(&shared));
         return Some(among_equals(rng, t, row));
     }
     let least = (0..t.n).filter_map(|cpu| ticks_left(t, cpu)).min()?;
-    if rng.percent(80) {
+    if rng.percent(65) {
         return None;
     }
     let soonest: Vec<usize> = (0..t.n)
         .filter(|&cpu| ticks_left(t, cpu) == Some(least))
         .collect();
     let cpu = rng.pick(&soonest);
-    Some(tick(rng, cpu))
+    Some(of_kind(rng, 7, cpu))
 }
 
-fn tick(rng: &mut Rng, cpu: usize) -> Event {
+/// An event of this kind on a CPU or of a task; its other numbers are any.
+fn of_kind(rng: &mut Rng, kind: u32, who: usize) -> Event {
     let junk = rng.bits();
     Event {
-        kind: 7,
-        who: cpu as u32,
+        kind,
+        who: who as u32,
         a: junk as u32,
         b: (junk >> 32) as u32,
         mask: rng.bits(),
@@ -99,8 +112,15 @@ fn among_equals(rng: &mut Rng, t: &Tables, row: &[u16]) -> Event {
 pub fn hostile(rng: &mut Rng, t: &Tables, style: &Style, pool: &[u16]) -> Event {
     let mut e = plausible(rng, t, style, pool);
     if rng.percent(60) {
-        let number = rng.within(3, 9);
-        return aimed(rng, t, style, pool, number);
+        return match rng.within(3, 12) {
+            10 => nowhere(rng, t),
+            11 => wrong_side(rng, t),
+            12 => {
+                let cpu = mostly_online(rng, t);
+                of_kind(rng, 10, cpu)
+            }
+            number => aimed(rng, t, style, pool, number),
+        };
     }
     for _ in 0..rng.pick(&[1, 1, 2, 4]) {
         match rng.below(5) {
@@ -141,6 +161,14 @@ fn aimed(rng: &mut Rng, t: &Tables, style: &Style, pool: &[u16], number: usize) 
         (9, _) => e.who = rng.below(style.n) as u32,
         _ => (),
     }
+    // Now and then the refusal after it fits too.
+    match number {
+        _ if rng.percent(80) => (),
+        5 => e.a = edge(rng, e.a, style.n),
+        6 => e.b = edge(rng, e.b, style.n),
+        7 => e.mask = edge_mask(rng, style.n),
+        _ => (),
+    }
     if let (6..=8, Some(&id), 1) = (number, free, e.kind) {
         e.who = u32::from(id);
     }
@@ -149,7 +177,7 @@ fn aimed(rng: &mut Rng, t: &Tables, style: &Style, pool: &[u16], number: usize) 
 
 /// Numbers about the limits, and such as are the old one when cut to 8 or 16 bits.
 fn edge(rng: &mut Rng, old: u32, n: usize) -> u32 {
-    const EDGES: [u32; 26] = [
+    const EDGES: [u32; 29] = [
         0,
         1,
         2,
@@ -158,6 +186,9 @@ fn edge(rng: &mut Rng, old: u32, n: usize) -> u32 {
         8,
         9,
         10,
+        11,
+        12,
+        13,
         63,
         64,
         65,

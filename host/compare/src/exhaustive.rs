@@ -8,7 +8,7 @@ use crate::generate::full;
 use crate::pair::Pair;
 use crate::plan::Plan;
 use crate::universe::Size;
-use binding::SLICE_DEFAULT;
+use binding::{INVALID, SLICE_DEFAULT};
 use reference::Mutant;
 use std::collections::HashSet;
 use std::fmt;
@@ -17,54 +17,45 @@ use std::fmt;
 /// that gets another priority to stand anywhere among higher ones, equals and lower ones. Full slices are short, so that
 /// ticks end them.
 pub const ALL_QUICK: &[Size] = &[
-    size(1, 2, &[1, 99], &[1, 2], 2, false),
-    size(2, 2, &[40, 50], &[2], 1, false),
-    size(1, 4, &[30, 40, 50], &[2], 1, true),
+    Size::new(1, 2, &[1, 99], &[1, 2], 2).hotplug(),
+    Size::new(2, 2, &[40, 50], &[2], 1),
+    Size::new(1, 4, &[30, 40, 50], &[2], 1).crowded(),
+    Size::new(2, 2, &[40], &[2], 1).hotplug(),
+    Size::new(3, 2, &[40, 50], &[1], 1).crowded().hotplug(),
 ];
 
 pub const ALL_FULL: &[Size] = &[
-    size(1, 3, &[1, 99], &[2], 2, false),
-    size(2, 2, &[40, 50], &[1, 2], 1, false),
-    size(3, 3, &[40, 50], &[1], 1, true),
+    Size::new(1, 3, &[1, 99], &[2], 2).hotplug(),
+    Size::new(2, 2, &[40, 50], &[1, 2], 1).hotplug(),
+    Size::new(3, 3, &[40, 50], &[1], 1).crowded().hotplug(),
 ];
 
 /// Every machine that events lead to from the fresh one.
 pub const REACH_QUICK: &[Size] = &[
-    size(1, 2, &[10, 20], &[1, 2], 3, false),
-    size(2, 2, &[10, 20], &[1], 1, false),
+    Size::new(1, 2, &[10, 20], &[1, 2], 3),
+    Size::new(2, 2, &[10, 20], &[1], 1),
+    Size::new(2, 1, &[10, 20], &[2], 2).hotplug(),
 ];
 
 pub const REACH_FULL: &[Size] = &[
-    size(1, 3, &[10, 20], &[2], 1, false),
-    size(2, 2, &[10, 20, 30], &[2], 1, false),
-    size(2, 3, &[10, 20], &[1], 1, false),
+    Size::new(1, 3, &[10, 20], &[2], 1),
+    Size::new(2, 2, &[10, 20, 30], &[2], 1).hotplug(),
+    Size::new(2, 3, &[10, 20], &[1], 1),
 ];
 
-/// Every machine that wakes, sleeps, ticks and yields lead to, from any priorities and masks.
+/// Every machine that wakes, sleeps, ticks and yields lead to, from any priorities and masks; in some sizes also CPUs that go
+/// offline and come back.
 pub const RUN_QUICK: &[Size] = &[
-    size(2, 3, &[10, 20, 30], &[1], 1, false),
-    size(3, 3, &[10, 20], &[2], 1, false),
+    Size::new(2, 3, &[10, 20, 30], &[1], 1),
+    Size::new(3, 3, &[10, 20], &[2], 1),
+    Size::new(2, 2, &[10, 20], &[1, 2], 1).hotplug(),
 ];
 
-pub const RUN_FULL: &[Size] = &[size(3, 3, &[10, 20, 30], &[2], 1, false)];
-
-const fn size(
-    n: usize,
-    tasks: usize,
-    prios: &'static [u8],
-    policies: &'static [u8],
-    full_slice: u16,
-    crowded: bool,
-) -> Size {
-    Size {
-        n,
-        tasks,
-        prios,
-        policies,
-        full_slice,
-        crowded,
-    }
-}
+pub const RUN_FULL: &[Size] = &[
+    Size::new(3, 3, &[10, 20, 30], &[2], 1),
+    Size::new(2, 3, &[10, 20, 30], &[1], 1).hotplug(),
+    Size::new(3, 3, &[10, 20], &[1], 1).hotplug(),
+];
 
 /// How far a search came.
 pub struct Reached {
@@ -166,22 +157,23 @@ pub fn reach(
     search(vec![size.empty()], &calls_of(size), limit, mutant, counters)
 }
 
-/// Every wake, sleep, tick and yield, from every setting of the size, until no machine is new or so many calls have
-/// been compared.
+/// Every wake, sleep, tick and yield, and where CPUs go and come back these events too, from every setting of the size, until
+/// no machine is new or so many calls have been compared.
 pub fn run_on(
     size: &Size,
     limit: u64,
     mutant: Mutant,
     counters: &mut Counters,
 ) -> Result<Reached, Box<Failure>> {
-    let runs = |call: &Call| matches!(call, Call::Event(e) if matches!(e.kind, 3 | 4 | 7 | 8));
+    let runs =
+        |call: &Call| matches!(call, Call::Event(e) if matches!(e.kind, 3 | 4 | 7 | 8 | 10 | 11));
     let calls: Vec<Call> = calls_of(size).into_iter().filter(runs).collect();
     search(size.settings(), &calls, limit, mutant, counters)
 }
 
-/// The finder with every level and every mask, on every record of up to three CPUs with these levels.
+/// The finder with every level and every mask, on every record of up to three CPUs with these levels, or INVALID.
 pub fn finder(mutant: Mutant, counters: &mut Counters) -> Option<Failure> {
-    const LEVELS: [u8; 6] = [0, 1, 3, 63, 64, 101];
+    const LEVELS: [u8; 6] = [0, 1, 63, 64, 101, INVALID];
     let questions = |n: usize| {
         let masks = move |level| (0..=full(n) + 1).map(move |mask| Call::Find(level, mask));
         (0..=103).flat_map(masks).collect::<Vec<Call>>()

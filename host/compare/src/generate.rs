@@ -33,6 +33,21 @@ pub fn full(n: usize) -> u64 {
     u64::MAX >> (64 - n)
 }
 
+/// Which CPUs are online: all, all but one, any, or one. Never none.
+fn online(rng: &mut Rng, n: usize) -> u64 {
+    let one = 1u64 << rng.below(n);
+    let some = match rng.below(10) {
+        0..=3 => full(n),
+        4 | 5 => full(n) & !one,
+        6..=8 => rng.bits() & full(n),
+        _ => one,
+    };
+    match some {
+        0 => one,
+        some => some,
+    }
+}
+
 /// A full slice: one at a limit, the default, the paper's 100, or any.
 fn full_slice(rng: &mut Rng) -> u32 {
     let any = rng.within(1, 1000) as u32;
@@ -130,14 +145,18 @@ impl Style {
         slice as u16
     }
 
-    fn task(&self, rng: &mut Rng, id: u16) -> TaskPlan {
+    /// A task that is runnable only if some of these online CPUs is allowed.
+    fn task(&self, rng: &mut Rng, id: u16, online: u64) -> TaskPlan {
         let mask = self.mask(rng);
-        let runnable = rng.percent(self.runnable);
-        let lowest = mask.trailing_zeros() as usize;
-        let allowed: Vec<usize> = (0..self.n).filter(|c| mask >> c & 1 == 1).collect();
+        let allowed = mask & online;
+        let runnable = allowed != 0 && rng.percent(self.runnable);
         let cpu = match (runnable, self.piled) {
-            (_, true) => lowest,
-            (true, false) => rng.pick(&allowed),
+            (true, true) => allowed.trailing_zeros() as usize,
+            (true, false) => {
+                let cpus: Vec<usize> = (0..self.n).filter(|c| allowed >> c & 1 == 1).collect();
+                rng.pick(&cpus)
+            }
+            (false, true) => mask.trailing_zeros() as usize,
             (false, false) => rng.below(self.n),
         };
         TaskPlan {
@@ -164,7 +183,7 @@ fn task_count(rng: &mut Rng, n: usize) -> usize {
 }
 
 /// A chain: CPU c runs a task that may use c and c+1, each lower than the one before. One that takes the first
-/// CPU pushes all the others on: task 511, which sleeps yet or waits already.
+/// CPU pushes all the others on: task 511, which sleeps yet or waits already. So does the first one if its CPU goes offline.
 pub fn chain(rng: &mut Rng, style: &Style, asleep: bool) -> (Plan, Vec<u16>) {
     let mut plan = Plan::empty(style.n, style.full_slice);
     let full_slice = style.full_slice as u16;
@@ -207,7 +226,11 @@ pub fn machine(rng: &mut Rng, style: &Style) -> (Plan, Vec<u16>) {
     let mut plan = Plan::empty(style.n, style.full_slice);
     let some = rng.bits();
     plan.flags = rng.pick(&[0, u64::MAX, some]) & full(style.n);
-    plan.tasks = ids[..count].iter().map(|&id| style.task(rng, id)).collect();
+    plan.online = online(rng, style.n);
+    plan.tasks = ids[..count]
+        .iter()
+        .map(|&id| style.task(rng, id, plan.online))
+        .collect();
     rng.shuffle(&mut plan.tasks);
     plan.log = rng.pick(&[NOTHING, 0, 40_000]);
     (plan, pool)

@@ -10,6 +10,7 @@ pub mod difference;
 pub mod events;
 pub mod exhaustive;
 pub mod generate;
+pub mod hotplug;
 pub mod mutants;
 pub mod pair;
 pub mod plan;

@@ -12,8 +12,8 @@ use options::{parse, Options, HELP};
 use std::process::ExitCode;
 use std::time::Instant;
 
-/// The least number of times that each refusal, each kind of event, each way of a new priority among equals, ticks that
-/// refill with each of some full slices, and the inner event must have come up in all modes together.
+/// The least number of times that each refusal, each kind of event, each way of a new priority among equals, each way with CPUs
+/// offline, ticks that refill with each of some full slices, and the inner event must have come up in all modes together.
 const LEAST: u64 = 1000;
 
 /// Calls of mode random in a quick run.
@@ -42,7 +42,7 @@ fn run_vectors(options: &Options) -> bool {
         }
     }
     println!(
-        "vectors: K1 to K12 and the cases of requests L3 and L7 on the library and on the reference"
+        "vectors: K1 to K12 and the cases of requests L3, L7 and L8 on the library and on the reference"
     );
     good
 }
@@ -76,9 +76,11 @@ fn size_words(size: &Size) -> String {
         policies,
         full_slice,
         crowded,
+        hotplug,
     } = size;
     let crowded = if *crowded { ", all runnable" } else { "" };
-    format!("N={n} tasks={tasks} prios={prios:?} policies={policies:?} full slice {full_slice} all masks{crowded}")
+    let hotplug = if *hotplug { ", CPUs go offline" } else { "" };
+    format!("N={n} tasks={tasks} prios={prios:?} policies={policies:?} full slice {full_slice} all masks{crowded}{hotplug}")
 }
 
 /// The sizes of the run: the quick ones, and in a full run the others too.
@@ -216,8 +218,8 @@ fn run(options: &Options) -> bool {
 fn enough(total: &Counters) -> bool {
     match total.reached(LEAST) {
         Ok(()) => println!(
-            "each refusal, each kind of event, each way of a new priority among equals, each way with full \
-             slices and the inner event came up at least {LEAST} times"
+            "each refusal, each kind of event, each way of a new priority among equals, with CPUs offline and with \
+             full slices and the inner event came up at least {LEAST} times"
         ),
         Err(ref says) => println!("TOO FEW: {says}, {LEAST} are asked for"),
     }

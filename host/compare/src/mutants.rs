@@ -28,7 +28,7 @@ impl Hunt {
 /// for more briefly: many errors show on damaged ones alone.
 pub fn hunt(mutant: Mutant, seed: u64, calls: u64) -> Hunt {
     let damaged = damaged::run(seed, calls, mutant, &mut Counters::default());
-    let fewer = if damaged.is_some() { calls / 4 } else { calls };
+    let fewer = if damaged.is_some() { calls / 8 } else { calls };
     let mut hunt = Hunt {
         mutant,
         examples: wrong(Side::Theirs(mutant)),

@@ -13,8 +13,8 @@ and if the machine is settled a third time, told so.
   --calls N     calls in each of random and damaged (1000000 and 300000; quick 100000 and 60000),
                 and at most in each search of exhaustive (no limit)
   --quick       the shorter run
-  --step K      of damaged's single numbers, event numbers and machines with all full slices one in K
-                (1: all); all lengths
+  --step K      of damaged's single numbers, event numbers and machines with all full slices and online
+                masks one in K (1: all); all lengths
   --case K      this case of random or damaged alone
   --mutant M    with the error M in the second scheduler: a difference is expected
   --help        this

@@ -4,6 +4,7 @@
 use crate::call::{Agreed, Answer, Call, Inner};
 use crate::demand3;
 use crate::difference::Difference;
+use crate::hotplug::{self, WAYS};
 use crate::tables::{first_difference, for_reference, right_lengths, ticks_left};
 use binding::{Event, Outcome, Tables};
 use inner::{Checked, Settled};
@@ -40,6 +41,7 @@ impl Pair {
             agreed.among_equals = compare_among_equals(&before, e);
             agreed.refilled = e.kind == 7 && ticks_left(&before, e.who as usize) == Some(1);
         }
+        agreed.hotplug = hotplug::ways(&before, e, agreed.answer);
         agreed.inner = self.call_inner(before, e, agreed.answer)?;
         Ok(agreed)
     }
@@ -55,6 +57,7 @@ impl Pair {
             slice_alone: answer.number == 1 && right_lengths(&self.ours),
             among_equals: None,
             refilled: false,
+            hotplug: [false; WAYS.len()],
         })
     }
 

@@ -1,7 +1,8 @@
 //! A well-formed machine in few words: what a case starts from, what a failure prints, and what a search
 //! remembers. Its tables are made here by a third way, which knows neither implementation.
 
-use binding::{Tables, CPUS, NOTHING, TASKS};
+use crate::generate::full;
+use binding::{Tables, NOTHING, TASKS};
 use std::fmt;
 
 #[derive(Clone, Debug, PartialEq, Eq, Hash)]
@@ -15,24 +16,28 @@ pub struct TaskPlan {
     pub mask: u64,
 }
 
-/// Equals of a row stand in the order of `tasks`.
+/// Equals of a row stand in the order of `tasks`. Runnable tasks are on online CPUs.
 #[derive(Clone, Debug, PartialEq, Eq, Hash)]
 pub struct Plan {
     pub n: usize,
     pub full_slice: u32,
     /// Bit c: CPU c has ordinary work.
     pub flags: u64,
+    /// Bit c: CPU c is online.
+    pub online: u64,
     pub tasks: Vec<TaskPlan>,
     /// What the log holds before: this number and the ones after it.
     pub log: u16,
 }
 
 impl Plan {
+    /// All CPUs are online.
     pub fn empty(n: usize, full_slice: u32) -> Plan {
         Plan {
             n,
             full_slice,
             flags: 0,
+            online: full(n),
             tasks: Vec::new(),
             log: NOTHING,
         }
@@ -41,6 +46,7 @@ impl Plan {
     /// The plan of well-formed tables, with the log forgotten. Equal machines have equal plans.
     pub fn read(t: &Tables) -> Plan {
         let mut plan = Plan::empty(t.n, t.full_slice);
+        plan.online = t.online;
         for c in 0..t.n {
             plan.flags |= u64::from(t.flags[c]) << c;
         }
@@ -64,6 +70,7 @@ impl Plan {
     pub fn tables(&self) -> Tables {
         let mut t = Tables::zeroed(self.n);
         t.full_slice = self.full_slice;
+        t.online = self.online;
         t.rows.fill(NOTHING);
         t.levels.fill(binding::INVALID);
         for i in 0..t.log.len() {
@@ -93,13 +100,15 @@ impl Plan {
             t.rows[TASKS * c + t.counts[c] as usize] = task.id;
             t.counts[c] += 1;
         }
-        for c in 0..self.n.min(CPUS) {
+        for c in 0..self.n {
             t.flags[c] = (self.flags >> c & 1) as u8;
             let level = match t.row(c).first() {
                 Some(&first) => t.prio[first as usize] + 2,
                 None => t.flags[c],
             };
-            enter_level(t, c, level);
+            if t.is_online(c) {
+                enter_level(t, c, level);
+            }
         }
     }
 }
@@ -119,12 +128,13 @@ impl fmt::Display for Plan {
             n,
             full_slice,
             flags,
+            online,
             log,
             ..
         } = self;
         writeln!(
             f,
-            "  N={n} full slice {full_slice} ordinary={flags:#x} log from {log}"
+            "  N={n} full slice {full_slice} ordinary={flags:#x} online={online:#x} log from {log}"
         )?;
         for t in &self.tasks {
             let state = if t.runnable { "runnable" } else { "asleep" };

@@ -20,26 +20,29 @@ fn length(rng: &mut Rng) -> usize {
     }
 }
 
-fn wake(who: u32) -> Event {
-    Event {
-        kind: 3,
-        who,
-        a: 0,
-        b: 0,
-        mask: 0,
-    }
-}
+/// CPUs of the cases that begin with a chain of moves when one of them goes offline.
+const CHAINS: [usize; 6] = [1, 2, 3, 4, 63, 64];
 
 /// A machine, the task numbers in use, and the call to begin with, if it is not any. Case N-1 begins with the
-/// longest chain of moves that N CPUs can have.
+/// longest chain of moves that N CPUs can have, and those after it with the longest when one of N goes offline.
 fn opening(rng: &mut Rng, style: &mut Style, number: u64) -> (Plan, Vec<u16>, Option<Call>) {
-    if number < 64 {
-        style.n = number as usize + 1;
+    let number = number as usize;
+    if number < 64 + CHAINS.len() {
+        let (n, first) = match number < 64 {
+            true => (number + 1, Event::new(3, 511, 0, 0, 0)),
+            false => (CHAINS[number - 64], Event::new(10, 0, 0, 0, 0)),
+        };
+        style.n = n;
         let (plan, pool) = chain(rng, style, true);
-        return (plan, pool, Some(Call::Event(wake(511))));
+        return (plan, pool, Some(Call::Event(first)));
     }
     let (plan, pool) = machine(rng, style);
-    (plan, pool, None)
+    // A later event finds the machine settled.
+    let first = match rng.percent(30) {
+        true => events::take_offline(rng, &plan.tables()),
+        false => None,
+    };
+    (plan, pool, first.map(Call::Event))
 }
 
 /// One case: the failure, if any.

@@ -1,5 +1,5 @@
-//! Part of mode damaged that leaves nothing to chance: every wrong length, full slices about all their limits, every single
-//! number of every table, and the numbers of events about all their limits, each with each.
+//! Part of mode damaged that leaves nothing to chance: every wrong length, full slices and online masks about all their limits,
+//! every single number of every table, and the numbers of events about all their limits, each with each.
 
 use crate::call::Call;
 use crate::case::{Case, Failure};
@@ -7,17 +7,19 @@ use crate::counters::Counters;
 use crate::damage::{three_of_four, Damage};
 use crate::damaged::origin;
 use crate::events;
-use crate::generate::Style;
+use crate::generate::{full, Style};
 use crate::plan::{Plan, TaskPlan};
 use crate::rng::Rng;
-use crate::tables::{get, len, COUNT, SLICE};
+use crate::tables::{get, len, COUNT, LENT, ONLINE, SLICE};
 use binding::{Event, Tables, SLICE_DEFAULT};
 use reference::Mutant;
 
-/// All lengths, and of the machines with all full slices, of the changed numbers and of the events one in `step`.
+/// All lengths, and of the machines with all full slices and online masks, of the changed numbers and of the events one in
+/// `step`.
 pub fn run(step: usize, mutant: Mutant, counters: &mut Counters) -> Option<Failure> {
     every_length(mutant, counters)
         .or_else(|| every_slice(step, mutant, counters))
+        .or_else(|| every_online(step, mutant, counters))
         .or_else(|| every_place(step, mutant, counters))
         .or_else(|| every_number(step, mutant, counters))
 }
@@ -42,22 +44,24 @@ fn task(
     }
 }
 
-/// Three CPUs: one with waiting equals, one with ordinary work below its task, one empty with ordinary work; and
-/// sleepers, one of them on a CPU that it is not allowed. Slices from 1 to the full one.
+/// Four CPUs: one with waiting equals, one with ordinary work below its task, one empty with ordinary work, and one offline
+/// with ordinary work; and sleepers, one of them on a CPU that it is not allowed, one on the offline CPU, which is its only
+/// one. Slices from 1 to the full one.
 fn machine(full_slice: u16) -> Plan {
     let left = |ticks: u16| ticks.min(full_slice);
     Plan {
-        flags: 6,
+        flags: 14,
+        online: 7,
         tasks: vec![
             task(0, true, (2, 50), 0, 1, 1),
             task(1, true, (1, 50), 0, full_slice, 3),
             task(3, true, (1, 1), 0, left(2), 1),
-            task(511, true, (2, 99), 1, left(7), 7),
-            task(2, false, (1, 99), 2, full_slice, 4),
-            task(510, false, (2, 1), 1, 1, 5),
+            task(511, true, (2, 99), 1, left(7), 15),
+            task(2, false, (1, 99), 3, full_slice, 8),
+            task(510, false, (2, 1), 1, 1, 13),
         ],
         log: 40_000,
-        ..Plan::empty(3, full_slice.into())
+        ..Plan::empty(4, full_slice.into())
     }
 }
 
@@ -67,7 +71,7 @@ fn wrong_sizes() -> Vec<(Plan, Damage)> {
     for n in [1, 2, 3, 63, 64] {
         let plan = Plan::empty(n, SLICE_DEFAULT);
         let good = plan.tables();
-        for table in 0..COUNT {
+        for table in 0..LENT {
             let right = len(&good, table);
             let others = [
                 0,
@@ -196,6 +200,78 @@ fn slice_calls() -> Vec<Call> {
     ]
 }
 
+/// Online masks for N CPUs: right and wrong ones, about all their limits.
+fn online_masks(n: usize) -> Vec<u64> {
+    let all = full(n);
+    let last = 1u64 << (n - 1);
+    let past = 1u64.checked_shl(n as u32).unwrap_or(0);
+    let mut masks = vec![0, 1, last, all, all ^ 1, all ^ last, all >> 1 | 1];
+    masks.extend([past, all | past, 1 | past, 1 << 63, all | 1 << 63]);
+    masks.extend([!all, u64::MAX, 1 | !all]);
+    masks.sort_unstable();
+    masks.dedup();
+    masks
+}
+
+/// Few CPUs, about half and all with each of these online masks, in the word alone and with the levels that it makes, on a
+/// machine without a task, on one with a sleeper and on one with running and waiting tasks.
+fn every_online(step: usize, mutant: Mutant, counters: &mut Counters) -> Option<Failure> {
+    const CPUS: [usize; 10] = [1, 2, 3, 4, 31, 32, 33, 62, 63, 64];
+    for n in CPUS.into_iter().step_by(step) {
+        let last = (n - 1) as u8;
+        let row = vec![
+            task(0, true, (2, 50), last, 1, full(n)),
+            task(1, true, (1, 50), last, 1, 1 << last),
+        ];
+        for tasks in [vec![], vec![task(0, false, (1, 50), last, 1, full(n))], row] {
+            let plan = Plan {
+                flags: 1 << last,
+                tasks,
+                ..Plan::empty(n, SLICE_DEFAULT)
+            };
+            let damages = online_masks(n).into_iter().flat_map(|value| {
+                let alone = Damage::Set {
+                    table: ONLINE,
+                    index: 0,
+                    value,
+                };
+                [alone, Damage::Replug(value)]
+            });
+            let failure = damages.into_iter().find_map(|damage| {
+                let case = Case {
+                    plan: plan.clone(),
+                    damage: vec![damage],
+                    calls: online_calls(n as u32),
+                };
+                case.run_counted(origin(None, mutant), counters)
+            });
+            if failure.is_some() {
+                return failure;
+            }
+        }
+    }
+    None
+}
+
+/// The check, the finder, a wake, and the first and the last CPU go and come back, where they may; then both makers.
+fn online_calls(n: u32) -> Vec<Call> {
+    let event = |kind, who| Call::Event(Event::new(kind, who, 0, 0, 0));
+    let last = n - 1;
+    vec![
+        Call::Check,
+        Call::Find(101, 1 << last),
+        event(10, n),
+        event(8, last),
+        event(10, 0),
+        event(10, last),
+        event(3, 0),
+        event(11, 0),
+        event(11, last),
+        Call::MakeFresh,
+        Call::MakeFreshDefault,
+    ]
+}
+
 /// Numbers near an old one and far from it; in the slice column also the full slice and one more. In tables of 64-bit words,
 /// also each of the bits at some limits.
 fn others(good: &Tables, table: usize, index: usize) -> Vec<u64> {
@@ -206,8 +282,8 @@ fn others(good: &Tables, table: usize, index: usize) -> Vec<u64> {
         let full_slice = u64::from(good.full_slice);
         all.extend([full_slice, full_slice + 1]);
     }
-    if [5, 10, 12].contains(&table) {
-        all.extend([0, 2, 3, 37, 38, 63].map(|bit| old ^ (1 << bit)));
+    if [5, 10, 12, ONLINE].contains(&table) {
+        all.extend([0, 2, 3, 4, 37, 38, 63].map(|bit| old ^ (1 << bit)));
     }
     all
 }
@@ -238,7 +314,7 @@ fn every_place(step: usize, mutant: Mutant, counters: &mut Counters) -> Option<F
     let good = machines.each_ref().map(Plan::tables);
     let calls = vec![
         Call::Check,
-        Call::Find(101, 7),
+        Call::Find(101, 15),
         Call::Event(Event::new(7, 0, 0, 0, 0)),
     ];
     let mut chosen = changes(&good).step_by(step);
@@ -254,11 +330,11 @@ fn every_place(step: usize, mutant: Mutant, counters: &mut Counters) -> Option<F
 
 /// Each kind with each number about a limit: where several refusals apply, the order decides.
 fn every_number(step: usize, mutant: Mutant, counters: &mut Counters) -> Option<Failure> {
-    const KINDS: [u32; 13] = [0, 1, 2, 3, 4, 5, 6, 7, 8, 9, 10, 257, u32::MAX];
-    const WHOS: [u32; 11] = [0, 1, 2, 3, 4, 5, 511, 512, 513, 65536, u32::MAX];
+    const KINDS: [u32; 15] = [0, 1, 2, 3, 4, 5, 6, 7, 8, 9, 10, 11, 12, 257, u32::MAX];
+    const WHOS: [u32; 10] = [0, 1, 2, 3, 4, 511, 512, 513, 65536, u32::MAX];
     const POLICIES: [u32; 6] = [0, 1, 2, 3, 257, u32::MAX];
     const VALUES: [u32; 8] = [0, 1, 2, 50, 99, 100, 256 + 50, u32::MAX];
-    const MASKS: [u64; 7] = [0, 1, 6, 7, 8, 1 << 63, u64::MAX];
+    const MASKS: [u64; 8] = [0, 1, 6, 8, 15, 16, 1 << 63, u64::MAX];
     let all = KINDS.len() * WHOS.len() * POLICIES.len() * VALUES.len() * MASKS.len();
     for code in (0..all).step_by(step) {
         let mut rest = code;

@@ -1,12 +1,17 @@
-//! The fourteen tables by number, so that any of them can be damaged, resized or compared.
+//! The fourteen tables by number, so that any of them can be damaged, resized or compared; and the online mask as one more, of
+//! one number.
 
 use binding::{Tables, CPUS};
 
-pub const COUNT: usize = 14;
+pub const COUNT: usize = 15;
 
-/// The numbers of the slice column and of the log.
+/// The tables that have a length: all but the online mask, which is the last.
+pub const LENT: usize = COUNT - 1;
+
+/// The numbers of the slice column, of the log and of the online mask.
 pub const SLICE: usize = 4;
 pub const LOG: usize = 9;
+pub const ONLINE: usize = 14;
 
 pub const NAMES: [&str; COUNT] = [
     "state",
@@ -23,6 +28,7 @@ pub const NAMES: [&str; COUNT] = [
     "level_counts",
     "level_words",
     "levels",
+    "online",
 ];
 
 /// A number of a table, from the low bits of a wide one.
@@ -77,6 +83,25 @@ impl<T: Cut> Table for Vec<T> {
     }
 }
 
+/// A word that is lent alone keeps its length.
+impl Table for u64 {
+    fn len(&self) -> usize {
+        1
+    }
+
+    fn get(&self, _: usize) -> u64 {
+        *self
+    }
+
+    fn set(&mut self, index: usize, value: u64) {
+        if index == 0 {
+            *self = value;
+        }
+    }
+
+    fn resize(&mut self, _: usize) {}
+}
+
 fn ours(t: &Tables) -> [&dyn Table; COUNT] {
     [
         &t.state,
@@ -93,6 +118,7 @@ fn ours(t: &Tables) -> [&dyn Table; COUNT] {
         &t.level_counts,
         &t.level_words,
         &t.levels,
+        &t.online,
     ]
 }
 
@@ -112,6 +138,7 @@ fn ours_mut(t: &mut Tables) -> [&mut dyn Table; COUNT] {
         &mut t.level_counts,
         &mut t.level_words,
         &mut t.levels,
+        &mut t.online,
     ]
 }
 
@@ -131,6 +158,7 @@ fn theirs(t: &reference::Tables) -> [&dyn Table; COUNT] {
         &t.level_counts,
         &t.level_words,
         &t.levels,
+        &t.online,
     ]
 }
 
@@ -168,6 +196,7 @@ pub fn for_reference(t: &Tables) -> reference::Tables {
         rows: t.rows,
         counts: t.counts,
         flags: t.flags,
+        online: t.online,
         log: t.log,
         level_masks: t.level_masks,
         level_counts: t.level_counts,
@@ -191,6 +220,7 @@ pub fn from_reference(t: &reference::Tables) -> Tables {
         rows: t.rows,
         counts: t.counts,
         flags: t.flags,
+        online: t.online,
         log: t.log,
         level_masks: t.level_masks,
         level_counts: t.level_counts,
@@ -212,7 +242,7 @@ pub fn right_lengths(t: &Tables) -> bool {
     (1..=CPUS).contains(&t.n) && (0..COUNT).all(|table| len(t, table) == len(&good, table))
 }
 
-/// All tables, byte by byte.
+/// All tables, byte by byte, and the online mask.
 fn same(a: &Tables, b: &reference::Tables) -> bool {
     a.state == b.state
         && a.policy == b.policy
@@ -223,6 +253,7 @@ fn same(a: &Tables, b: &reference::Tables) -> bool {
         && a.rows == b.rows
         && a.counts == b.counts
         && a.flags == b.flags
+        && a.online == b.online
         && a.log == b.log
         && a.level_masks == b.level_masks
         && a.level_counts == b.level_counts

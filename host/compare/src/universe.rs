@@ -15,6 +15,8 @@ pub struct Size {
     pub full_slice: u16,
     /// Of `machines`: no place is free or asleep, and no CPU has ordinary work.
     pub crowded: bool,
+    /// CPUs go offline and come back; of `machines`, each has each online mask.
+    pub hotplug: bool,
 }
 
 fn event(kind: u32, who: usize, a: u8, b: u8, mask: u64) -> Event {
@@ -28,6 +30,38 @@ fn event(kind: u32, who: usize, a: u8, b: u8, mask: u64) -> Event {
 }
 
 impl Size {
+    pub const fn new(
+        n: usize,
+        tasks: usize,
+        prios: &'static [u8],
+        policies: &'static [u8],
+        full_slice: u16,
+    ) -> Size {
+        Size {
+            n,
+            tasks,
+            prios,
+            policies,
+            full_slice,
+            crowded: false,
+            hotplug: false,
+        }
+    }
+
+    pub const fn crowded(self) -> Size {
+        Size {
+            crowded: true,
+            ..self
+        }
+    }
+
+    pub const fn hotplug(self) -> Size {
+        Size {
+            hotplug: true,
+            ..self
+        }
+    }
+
     /// Every event with this size's numbers.
     pub fn events(&self) -> Vec<Event> {
         let mut events = self.refused();
@@ -52,6 +86,10 @@ impl Size {
             events.push(event(8, cpu, 0, 0, 0));
             events.push(event(9, cpu, 0, 0, 0));
             events.push(event(9, cpu, 0, 1, 0));
+            if self.hotplug {
+                events.push(event(10, cpu, 0, 0, 0));
+                events.push(event(11, cpu, 0, 0, 0));
+            }
         }
         events
     }
@@ -59,9 +97,9 @@ impl Size {
     /// Some with a number just past this size's.
     fn refused(&self) -> Vec<Event> {
         let past = full(self.n) + 1;
-        vec![
+        let mut refused = vec![
             event(0, 0, 1, 1, 1),
-            event(10, 0, 1, 1, 1),
+            event(12, 0, 1, 1, 1),
             event(1, 0, 3, 1, 1),
             event(1, 0, 1, 0, 1),
             event(1, 0, 1, 1, 0),
@@ -69,11 +107,15 @@ impl Size {
             event(5, 0, 0, 100, 0),
             event(7, self.n, 0, 0, 0),
             event(9, 0, 0, 2, 0),
-        ]
+        ];
+        if self.hotplug {
+            refused.extend([event(10, self.n, 0, 0, 0), event(11, self.n, 0, 0, 0)]);
+        }
+        refused
     }
 
-    /// Every way a task place can be: free (none), asleep, or runnable on an allowed CPU.
-    fn places(&self, id: usize) -> Vec<Option<TaskPlan>> {
+    /// Every way a task place can be: free (none), asleep, or runnable on an allowed CPU of these online ones.
+    fn places(&self, id: usize, online: u64) -> Vec<Option<TaskPlan>> {
         let mut all = Vec::new();
         if !self.crowded {
             all.push(None);
@@ -81,7 +123,8 @@ impl Size {
         for mask in 1..=full(self.n) {
             for cpu in 0..self.n {
                 for runnable in [false, true] {
-                    if runnable && mask >> cpu & 1 == 0 || !runnable && self.crowded {
+                    let allowed = (mask & online) >> cpu & 1 == 1;
+                    if runnable && !allowed || !runnable && self.crowded {
                         continue;
                     }
                     self.numbers(|policy, prio, slice| {
@@ -155,9 +198,16 @@ impl Size {
 
     /// Every well-formed machine, settled or not, each once.
     pub fn machines(&self) -> Vec<Plan> {
+        let least = if self.hotplug { 1 } else { full(self.n) };
+        let online = least..=full(self.n);
+        online.flat_map(|online| self.with_online(online)).collect()
+    }
+
+    /// Every one with this online mask.
+    fn with_online(&self, online: u64) -> Vec<Plan> {
         let mut sets: Vec<Vec<TaskPlan>> = vec![Vec::new()];
         for id in 0..self.tasks {
-            let places = self.places(id);
+            let places = self.places(id, online);
             let longer = |set: &Vec<TaskPlan>| -> Vec<Vec<TaskPlan>> {
                 places
                     .iter()
@@ -173,6 +223,7 @@ impl Size {
                 for flags in 0..=most {
                     all.push(Plan {
                         flags,
+                        online,
                         tasks: tasks.clone(),
                         ..self.empty()
                     });
@@ -212,14 +263,7 @@ mod tests {
     use super::*;
     use std::collections::HashSet;
 
-    const SMALL: Size = Size {
-        n: 2,
-        tasks: 2,
-        prios: &[7],
-        policies: &[1],
-        full_slice: 1,
-        crowded: false,
-    };
+    const SMALL: Size = Size::new(2, 2, &[7], &[1], 1);
 
     #[test]
     fn machines_are_counted_by_hand() {
@@ -233,6 +277,10 @@ mod tests {
         // A place: free; asleep, 2 CPUs times 3 masks; runnable, 4 ways. Two runnable of the same CPU, which are 2
         // times 2 times 2 ways, stand in either order.
         assert_eq!(SMALL.machines().len(), (11 * 11 + 8) * 4);
+        // With one CPU offline: runnable, 2 ways; two runnable, which are 2 times 2 ways, stand in either order.
+        let offline = (9 * 9 + 4) * 4;
+        let all = SMALL.hotplug().machines().len();
+        assert_eq!(all, SMALL.machines().len() + 2 * offline);
         // Free, or asleep or runnable with one, two or three ticks left.
         let ticks = Size {
             full_slice: 3,
@@ -243,7 +291,7 @@ mod tests {
 
     #[test]
     fn machines_are_different_and_well_formed() {
-        let machines = SMALL.machines();
+        let machines = SMALL.hotplug().machines();
         let different: HashSet<Plan> = machines.iter().cloned().collect();
         assert_eq!(different.len(), machines.len());
         for plan in machines {

@@ -1,6 +1,7 @@
-//! K1 to K12 of the paper, with the paper's numbers and 100 named as the full slice, and some cases of requests L3 and L7, on
-//! our library and on the reference. A log entry is (task, from, to, level of the destination before the move).
+//! K1 to K12 of the paper, with the paper's numbers, 100 named as the full slice and all CPUs online, and some cases of requests
+//! L3, L7 and L8, on our library and on the reference. A log entry is (task, from, to, level of the destination before the move).
 
+mod hotplug;
 mod lowered;
 mod slices;
 
@@ -22,6 +23,8 @@ enum Step {
     Make(usize, Option<u32>, u8, u32),
     /// From here on this full slice is handed in.
     With(u32),
+    /// From here on this online mask is handed in.
+    Plug(u64),
     /// The check, and its answer.
     Check(u8),
     /// An event, and the answer.
@@ -29,6 +32,9 @@ enum Step {
     Rows(&'static [&'static [u16]]),
     Levels(&'static [u8]),
     Cpus(&'static [u8]),
+    Flags(&'static [u8]),
+    /// The online mask.
+    Online(u64),
     /// The log of the last event, which says its number of moves too.
     Log(&'static [[u16; 4]]),
     /// A task's slice.
@@ -299,6 +305,10 @@ impl Run {
                 self.t.full_slice = full_slice;
                 Ok(())
             }
+            Plug(online) => {
+                self.t.online = online;
+                Ok(())
+            }
             Check(answer) => same("answer of the check", self.check(), answer),
             Do(e, answer) => {
                 let outcome = self.event(e);
@@ -311,6 +321,8 @@ impl Run {
             }
             Levels(levels) => same("levels", &self.t.levels[..levels.len()], levels),
             Cpus(cpus) => same("CPUs of tasks", &self.t.cpu[..cpus.len()], cpus),
+            Flags(flags) => same("flags", &self.t.flags[..], flags),
+            Online(online) => same("online mask", self.t.online, online),
             Log(log) => {
                 same("number of moves", self.moves as usize, log.len())?;
                 let log = log.concat();
@@ -354,7 +366,8 @@ fn marked() -> [(&'static str, Vec<Step>); 12] {
 pub fn wrong(side: Side) -> Vec<String> {
     let mut wrong = Vec::new();
     let cases = marked().into_iter().chain(lowered::cases());
-    for (name, steps) in cases.chain(slices::cases()) {
+    let cases = cases.chain(slices::cases()).chain(hotplug::cases());
+    for (name, steps) in cases {
         let mut run = Run {
             side,
             t: Tables::zeroed(1),

@@ -26,7 +26,8 @@ fn random_machines() {
     let mut counters = Counters::default();
     none(random::run(2, 10_000, Mutant::None, &mut counters));
     assert_eq!(counters.most_moves(), 63);
-    assert!((1..=9).all(|kind| counters.accepted[kind] > 0));
+    assert!((1..=11).all(|kind| counters.accepted[kind] > 0));
+    assert!(counters.hotplug.iter().all(|&times| times > 0));
     assert!(counters.among_equals.iter().all(|&times| times > 50));
     assert!(counters.refilled.iter().all(|&times| times > 20));
     assert!(counters.added_other > 100);
@@ -38,7 +39,7 @@ fn random_machines() {
 fn damaged_tables() {
     let mut counters = Counters::default();
     none(damaged::run(2, 10_000, Mutant::None, &mut counters));
-    assert!((1..=9).all(|number| counters.answers[EVENT][number] > 0));
+    assert!((1..=12).all(|number| counters.answers[EVENT][number] > 0));
     for entry in [MAKE_FRESH, CHECK, EVENT] {
         assert!(counters.slice_alone[entry] > 20);
     }

@@ -1,4 +1,5 @@
-//! The check of demand 3 and of the log's levels passes K5's last event and fails each part when that part is spoiled.
+//! The check of demand 3 and of the log's levels passes K5's last event and fails each part when that part is spoiled; and so
+//! with CPUs that go offline and come back.
 
 use binding::{Event, Tables};
 use compare::demand3::{check, Before};
@@ -148,4 +149,73 @@ fn a_task_in_no_row_or_in_two() {
     });
     assert!(twice.contains("task 2 stands 2 times"));
     assert!(says(2, |t| t.state[2] = 1).contains("task 2 stands 1 times"));
+}
+
+const OFFLINE_0: Event = Event {
+    kind: 10,
+    who: 0,
+    a: 0,
+    b: 0,
+    mask: 0,
+};
+
+/// Three CPUs, tasks 0 (50, mask 3) and 1 (40, mask 6), and CPU 0 goes offline: task 0 leaves for CPU 1, and the log is
+/// (1,1,2,0).
+fn offline() -> (Before, Tables) {
+    let mut t = Tables::fresh(3).expect("3 CPUs");
+    for e in [
+        Event::new(1, 0, 1, 50, 3),
+        Event::new(1, 1, 1, 40, 6),
+        Event::new(3, 0, 0, 0, 0),
+        Event::new(3, 1, 0, 0, 0),
+    ] {
+        assert_eq!(t.event(e).answer, 0);
+    }
+    let before = Before::of(&t);
+    assert_eq!(t.event(OFFLINE_0).moves, 1);
+    assert_eq!(check(&before, OFFLINE_0, 1, &t), Ok(()));
+    (before, t)
+}
+
+/// "both by the online mask after the event's own effect"; a task that leaves needs no log entry, and goes to the
+/// lowest-numbered CPU.
+#[test]
+fn a_cpu_that_goes_offline() {
+    let says = |moves, spoil: fn(&mut Tables)| {
+        let (before, mut t) = offline();
+        spoil(&mut t);
+        check(&before, OFFLINE_0, moves, &t).expect_err("spoiled")
+    };
+    assert_eq!(says(2, |_| ()), "2 migrations on 2 online CPUs");
+    let online = says(1, |t| t.online = 7);
+    assert_eq!(online, "the online mask is 0x7, and must be 0x6");
+    let elsewhere = says(1, |t| t.cpu[0] = 2);
+    assert_eq!(elsewhere, "task 0 moved without a log entry");
+    let gone = says(1, |t| t.log[1] = 0);
+    assert_eq!(gone, "log entry 0 has an offline CPU");
+}
+
+/// A task waits, and outranks what ran on CPU 1 alone: that is offline. Back, the task goes there.
+#[test]
+fn an_offline_cpu_is_not_outranked() {
+    let mut t = Tables::fresh(2).expect("2 CPUs");
+    for e in [
+        Event::new(10, 1, 0, 0, 0),
+        Event::new(1, 0, 1, 50, 1),
+        Event::new(1, 1, 1, 40, 3),
+        Event::new(3, 0, 0, 0, 0),
+    ] {
+        assert_eq!(t.event(e).answer, 0);
+    }
+    let before = Before::of(&t);
+    let wake = Event::new(3, 1, 0, 0, 0);
+    assert_eq!(t.event(wake).moves, 0);
+    assert_eq!(check(&before, wake, 0, &t), Ok(()));
+    let (before, waits) = (Before::of(&t), t.clone());
+    let back = Event::new(11, 1, 0, 0, 0);
+    assert_eq!(t.event(back).moves, 1);
+    assert_eq!(check(&before, back, 1, &t), Ok(()));
+    let stays = Tables { online: 3, ..waits };
+    let said = check(&before, back, 0, &stays).expect_err("spoiled");
+    assert_eq!(said, "task 1 waits and outranks what runs on CPU 1");
 }

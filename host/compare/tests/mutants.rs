@@ -86,6 +86,80 @@ fn examples_show_the_errors_of_full_slices() {
     ]);
 }
 
+/// The errors about CPUs that go offline and come back, each in a case that shows it. Those that need a machine which no events
+/// lead to, and that of the finder, no case asks for.
+#[test]
+fn examples_show_the_errors_of_hotplug() {
+    shown(&[
+        (Mutant::LeaveBackToFront, "offline-equals rows"),
+        (Mutant::LeaveBeforeEquals, "offline-equals rows"),
+        (Mutant::LeaveToHighest, "offline-masks rows"),
+        (Mutant::LeaveToItself, "offline-and-back rows"),
+        (Mutant::LeaveSliceRefilled, "offline-and-back slice"),
+        (Mutant::LeavingLogged, "offline-and-back number of moves"),
+        (Mutant::SleepersLeave, "offline-pinned CPUs"),
+        (Mutant::OfflineKeepsLevel, "offline-and-back levels"),
+        (Mutant::OfflineAtFlag, "offline-and-back levels"),
+        (Mutant::OfflineLosesFlag, "offline-ordinary flags"),
+        (Mutant::OfflineReceives, "offline-destinations log"),
+        (Mutant::NoStepAfterOffline, "offline-moves "),
+        (Mutant::NoStepAfterOnline, "offline-and-back "),
+        (Mutant::BackIdle, "offline-ordinary levels"),
+        (Mutant::BackLosesFlag, "offline-ordinary flags"),
+        (Mutant::OrdinaryLostOffline, "offline-ordinary flags"),
+        (Mutant::OrdinaryRaisesOffline, "offline-ordinary levels"),
+        (Mutant::FreshOneOnline, "offline-and-back online mask"),
+        (Mutant::FreshKeepsOnline, "offline-and-back online mask"),
+        (Mutant::FreshAllBitsOnline, "offline-and-back online mask"),
+        (
+            Mutant::SleeperCpuOnline,
+            "offline-pinned answer of the check",
+        ),
+        (
+            Mutant::OnlinePastPasses,
+            "offline-checks answer of the check",
+        ),
+        (
+            Mutant::OfflineLevelUnchecked,
+            "offline-checks answer of the check",
+        ),
+        (
+            Mutant::OnlineInvalidPasses,
+            "offline-checks answer of the check",
+        ),
+    ]);
+}
+
+/// The same of the refusals 10 to 12, and of where add, wake and a new mask place a task.
+#[test]
+fn examples_show_the_errors_of_placing_online() {
+    shown(&[
+        (Mutant::AddOnOnline, "offline-adds CPUs"),
+        (Mutant::AddNowhereRefused, "offline-adds answer"),
+        (Mutant::WakeOwnOffline, "offline-wakes "),
+        (Mutant::WakeLowestOffline, "offline-wakes "),
+        (Mutant::WakeNowherePasses, "offline-wakes answer"),
+        (Mutant::MaskToOffline, "offline-new-masks rows"),
+        (Mutant::MaskNowherePasses, "offline-new-masks answer"),
+        (Mutant::SleeperMaskRefused, "offline-new-masks answer"),
+        (Mutant::NowhereBeforeMask, "offline-new-masks answer"),
+        (Mutant::OrdinaryRefusedOffline, "offline-ordinary answer"),
+        (Mutant::TickOfflinePasses, "offline-tick-yield answer"),
+        (Mutant::EmptyBeforeOffline, "offline-tick-yield answer"),
+        (Mutant::AlreadyOfflinePasses, "offline-last answer"),
+        (Mutant::AlreadyOnlinePasses, "offline-last answer"),
+        (Mutant::LastGoes, "offline-last answer"),
+        (Mutant::LastBeforeNowhere, "offline-last answer"),
+        (Mutant::LastWhichever, "offline-last answer"),
+        (Mutant::PinnedGoes, "offline-pinned answer"),
+        (Mutant::NowhereOfRunning, "offline-pinned answer"),
+        (Mutant::NowhereOfSleepers, "offline-pinned answer"),
+        (Mutant::RefusalTakesOut, "offline-pinned online mask"),
+        (Mutant::OfflineCpuUnchecked, "offline-numbers answer"),
+        (Mutant::KindTwelvePasses, "offline-numbers answer"),
+    ]);
+}
+
 /// The two pages that say how many errors there are.
 #[test]
 fn the_pages_count_the_errors() {

@@ -29,6 +29,7 @@ extern "C" {
         counts_len: usize,
         flags: *mut u8,
         flags_len: usize,
+        online: *mut u64,
         log: *mut u16,
         log_len: usize,
         level_masks: *mut u64,
@@ -107,8 +108,8 @@ impl Settled {
 unsafe fn event(settled: bool, t: &mut Tables, e: Event) -> Outcome {
     let mut moves = 0;
     // Safety: the tables pass the check, so the record's four have their lengths and the full slice, at most 1000, is whole
-    // in 16 bits; each pointer is a vector's own, with its length, and no two vectors overlap; `moves` is a local of this
-    // function.
+    // in 16 bits; each pointer is a vector's own, with its length, or the online mask's, and no two overlap; `moves` is a local
+    // of this function.
     let answer = unsafe {
         qoriwesh_inner_event(
             settled,
@@ -131,6 +132,7 @@ unsafe fn event(settled: bool, t: &mut Tables, e: Event) -> Outcome {
             t.counts.len(),
             t.flags.as_mut_ptr(),
             t.flags.len(),
+            &mut t.online,
             t.log.as_mut_ptr(),
             t.log.len(),
             t.level_masks.as_mut_ptr(),
@@ -149,7 +151,7 @@ unsafe fn event(settled: bool, t: &mut Tables, e: Event) -> Outcome {
     Outcome { answer, moves }
 }
 
-/// Copies the full slice and every table in place.
+/// Copies the full slice, the online mask and every table in place.
 fn copy(from: &Tables, to: &mut Tables) {
     to.full_slice = from.full_slice;
     to.state.copy_from_slice(&from.state);
@@ -161,6 +163,7 @@ fn copy(from: &Tables, to: &mut Tables) {
     to.rows.copy_from_slice(&from.rows);
     to.counts.copy_from_slice(&from.counts);
     to.flags.copy_from_slice(&from.flags);
+    to.online = from.online;
     to.log.copy_from_slice(&from.log);
     to.level_masks.copy_from_slice(&from.level_masks);
     to.level_counts.copy_from_slice(&from.level_counts);

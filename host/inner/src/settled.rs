@@ -2,7 +2,7 @@
 
 use binding::Tables;
 
-/// No waiting task has an allowed CPU of a lower level. Of tables that pass the check.
+/// No waiting task has an allowed online CPU of a lower level. Of tables that pass the check. (An offline CPU's level is 255.)
 pub(crate) fn is_settled(t: &Tables) -> bool {
     (0..t.n).all(|cpu| {
         let waiting = t.row(cpu).iter().skip(1);

@@ -2,7 +2,7 @@
 
 use crate::consistent::is_consistent;
 use crate::find::mask_fits;
-use crate::record::{level_of, Record};
+use crate::record::{level_of, Record, INVALID};
 use crate::tables::{Tables, ASLEEP, FREE, NOTHING, RUNNABLE, TASKS};
 
 /// Which tasks stand in rows, 64 to a word.
@@ -14,7 +14,8 @@ pub fn check(t: &Tables, record: &Record) -> u8 {
         return 1;
     }
     let mut placed = [0; TASKS / 64];
-    let fits = (0..t.n).all(|cpu| row_fits(t, record, cpu, &mut placed))
+    let fits = mask_fits(t.n, t.online)
+        && (0..t.n).all(|cpu| row_fits(t, record, cpu, &mut placed))
         && columns_fit(t, &placed)
         && is_consistent(t.n, record);
     if fits {
@@ -33,11 +34,12 @@ fn row_fits(t: &Tables, record: &Record, cpu: usize, placed: &mut Placed) -> boo
     if !tasks_fit(t, cpu, tasks, placed) || !empty(unused) {
         return false;
     }
-    let level = match tasks.first() {
-        Some(&first) => level_of(t.prio[first as usize]),
-        None => t.flags[cpu],
-    };
-    record.levels[cpu] == level
+    let online = t.online >> cpu & 1 == 1;
+    match tasks.first() {
+        Some(&first) => online && record.levels[cpu] == level_of(t.prio[first as usize]),
+        None if online => record.levels[cpu] == t.flags[cpu],
+        None => record.levels[cpu] == INVALID,
+    }
 }
 
 /// No unused place of a row holds a task. It looks at all of them before it decides, which the compiler makes many at a

@@ -14,6 +14,9 @@ pub fn is_consistent(n: usize, record: &Record) -> bool {
 fn masks_of(n: usize, levels: &[u8; CPUS]) -> Option<[u64; LEVELS]> {
     let mut masks = [0; LEVELS];
     for (cpu, &level) in levels[..n].iter().enumerate() {
+        if level == INVALID {
+            continue;
+        }
         if level as usize >= LEVELS || level == 2 {
             return None;
         }

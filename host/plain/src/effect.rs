@@ -1,5 +1,5 @@
-//! The nine kinds of event: the checks of each, and its own effect on well-formed tables. Each gives who may be movable
-//! then, if nobody was before; or the number of the refusal, and nothing is changed.
+//! The first nine kinds of event: the checks of each, and its own effect on well-formed tables. Each gives who may be
+//! movable then, if nobody was before; or the number of the refusal, and nothing is changed.
 
 use crate::event::Event;
 use crate::find::mask_fits;
@@ -11,7 +11,7 @@ use std::cmp::Ordering;
 use std::mem::replace;
 
 /// The refusal, unless what is asked for holds.
-fn need(holds: bool, refusal: u8) -> Result<(), u8> {
+pub fn need(holds: bool, refusal: u8) -> Result<(), u8> {
     if holds {
         Ok(())
     } else {
@@ -31,7 +31,7 @@ fn task(e: &Event) -> Result<usize, u8> {
 }
 
 /// The CPU that the event names, and who runs there, 65535 if nobody.
-fn cpu(t: &Lent, e: &Event) -> Result<(usize, u16), u8> {
+pub fn cpu(t: &Lent, e: &Event) -> Result<(usize, u16), u8> {
     let who = e.who as usize;
     let row = t.rows.get(who).ok_or(4)?;
     Ok((who, row[0]))
@@ -67,13 +67,13 @@ pub fn remove(t: &mut Lent, _: &mut Record, e: &Event) -> Result<Few, u8> {
 pub fn wake(t: &mut Lent, record: &mut Record, e: &Event) -> Result<Few, u8> {
     let who = task(e)?;
     need(t.state[who] == ASLEEP, 5)?;
+    let (cpu, allowed) = (t.cpu[who], t.mask[who] & *t.online);
+    need(allowed != 0, 10)?;
     t.state[who] = RUNNABLE;
-    let (cpu, mask) = (t.cpu[who], t.mask[who]);
-    let allowed = mask >> cpu & 1 == 1;
-    let target = if allowed {
+    let target = if allowed >> cpu & 1 == 1 {
         cpu as usize
     } else {
-        mask.trailing_zeros() as usize
+        allowed.trailing_zeros() as usize
     };
     Ok(Few {
         fallen: NOWHERE,
@@ -110,17 +110,21 @@ pub fn set_affinity(t: &mut Lent, record: &mut Record, e: &Event) -> Result<Few,
     let who = task(e)?;
     need(t.state[who] != FREE, 5)?;
     need(mask_fits(t.n, e.mask), 8)?;
-    t.mask[who] = e.mask;
     if t.state[who] != RUNNABLE {
+        t.mask[who] = e.mask;
         return Ok(Few::NONE);
     }
     let cpu = t.cpu[who] as usize;
     if e.mask >> cpu & 1 == 0 {
+        let allowed = e.mask & *t.online;
+        need(allowed != 0, 10)?;
+        t.mask[who] = e.mask;
         return Ok(Few {
             fallen: leave(t, record, who),
-            new: enter(t, record, e.mask.trailing_zeros() as usize, who),
+            new: enter(t, record, allowed.trailing_zeros() as usize, who),
         });
     }
+    t.mask[who] = e.mask;
     let runs = t.rows[cpu][0] == who as u16;
     Ok(Few {
         fallen: NOWHERE,
@@ -131,8 +135,10 @@ pub fn set_affinity(t: &mut Lent, record: &mut Record, e: &Event) -> Result<Few,
 pub fn tick(t: &mut Lent, _: &mut Record, e: &Event) -> Result<Few, u8> {
     let (cpu, first) = cpu(t, e)?;
     let first = first as usize;
-    if t.policy.get(first) != Some(&RR) {
-        return Ok(Few::NONE);
+    match t.policy.get(first) {
+        Some(&RR) => (),
+        None if !t.is_online(cpu) => return Err(11),
+        _ => return Ok(Few::NONE),
     }
     t.slice[first] -= 1;
     if t.slice[first] > 0 {
@@ -144,7 +150,9 @@ pub fn tick(t: &mut Lent, _: &mut Record, e: &Event) -> Result<Few, u8> {
 
 pub fn yield_cpu(t: &mut Lent, _: &mut Record, e: &Event) -> Result<Few, u8> {
     let (cpu, first) = cpu(t, e)?;
-    need(first != NOTHING, 9)?;
+    if first == NOTHING {
+        return Err(if t.is_online(cpu) { 9 } else { 11 });
+    }
     Ok(requeue(t, cpu))
 }
 
@@ -152,7 +160,8 @@ pub fn set_ordinary(t: &mut Lent, record: &mut Record, e: &Event) -> Result<Few,
     let (cpu, first) = cpu(t, e)?;
     need(e.b <= 1, 7)?;
     t.flags[cpu] = e.b as u8;
-    if first == NOTHING && record.levels[cpu] != e.b as u8 {
+    // The level of an idle CPU is 0 or 1, that of an offline one is not.
+    if first == NOTHING && record.levels[cpu] == 1 - e.b as u8 {
         record.set_level(cpu, e.b as u8);
     }
     Ok(Few::NONE)

@@ -2,6 +2,7 @@
 
 use crate::check::check;
 use crate::effect;
+use crate::hotplug;
 use crate::record::Record;
 use crate::settle::{settle, settle_few, Few};
 use crate::tables::{Lent, Tables};
@@ -48,6 +49,8 @@ pub fn handle(t: &mut Lent, record: &mut Record, e: &Event, settled: bool) -> Ou
         7 => run(t, record, e, settled, effect::tick),
         8 => run(t, record, e, settled, effect::yield_cpu),
         9 => run(t, record, e, settled, effect::set_ordinary),
+        10 => run(t, record, e, settled, hotplug::take_offline),
+        11 => run(t, record, e, settled, hotplug::bring_online),
         _ => Outcome::refused(3),
     }
 }

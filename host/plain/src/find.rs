@@ -63,6 +63,11 @@ fn among(record: &Record, word: usize, below: usize, mask: u64) -> Option<(usize
     None
 }
 
+/// The mask of all n CPUs, 1 to 64 of them.
+pub fn all(n: usize) -> u64 {
+    u64::MAX >> (CPUS - n)
+}
+
 /// A mask of n CPUs: not 0, and no bit at n or above.
 pub fn mask_fits(n: usize, mask: u64) -> bool {
     mask != 0 && (n == CPUS || mask >> n == 0)

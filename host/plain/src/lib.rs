@@ -10,6 +10,7 @@ pub mod consistent;
 pub mod effect;
 pub mod event;
 pub mod find;
+pub mod hotplug;
 pub mod record;
 pub mod row;
 pub mod settle;

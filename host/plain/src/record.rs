@@ -2,7 +2,7 @@
 
 pub const LEVELS: usize = 102;
 pub const CPUS: usize = 64;
-/// The level of a CPU that is not there.
+/// The level of a CPU that is not there, or offline.
 pub const INVALID: u8 = 255;
 
 #[derive(Clone, Debug, PartialEq, Eq)]
@@ -38,6 +38,17 @@ impl Record {
         let before = self.leave(cpu);
         self.enter(cpu, level);
         before
+    }
+
+    /// The CPU goes offline: it is at no level.
+    pub fn take_out(&mut self, cpu: usize) {
+        self.leave(cpu);
+        self.levels[cpu] = INVALID;
+    }
+
+    /// The CPU, which was at no level, comes to one.
+    pub fn bring_in(&mut self, cpu: usize, level: u8) {
+        self.enter(cpu, level);
     }
 
     /// The CPU leaves its level: which it is.

@@ -1,5 +1,6 @@
-//! The ten tables that a caller lends, their lengths, and the two numbers of the machine.
+//! The ten tables and the online mask that a caller lends, their lengths, and the two numbers of the machine.
 
+use crate::find::all;
 use crate::record::{Record, CPUS};
 use std::mem::replace;
 
@@ -39,6 +40,8 @@ pub struct Tables {
     pub rows: Vec<Row>,
     pub counts: Vec<u16>,
     pub flags: Vec<u8>,
+    /// Bit c is set if CPU c is online.
+    pub online: u64,
     pub log: Vec<Entry>,
 }
 
@@ -55,7 +58,14 @@ pub struct Lent<'a> {
     pub rows: &'a mut [Row],
     pub counts: &'a mut [u16],
     pub flags: &'a mut [u8],
+    pub online: &'a mut u64,
     pub log: &'a mut [Entry; ENTRIES],
+}
+
+impl Lent<'_> {
+    pub fn is_online(&self, cpu: usize) -> bool {
+        *self.online >> cpu & 1 == 1
+    }
 }
 
 /// What a maker answers: 0 and the machine's full slice, or 1 and 0.
@@ -100,6 +110,7 @@ impl Tables {
             rows: &mut self.rows,
             counts: &mut self.counts,
             flags: &mut self.flags,
+            online: &mut self.online,
             log: self.log.as_mut_slice().try_into().ok()?,
         })
     }
@@ -117,6 +128,7 @@ impl Tables {
         t.rows.fill([NOTHING; TASKS]);
         t.counts.fill(0);
         t.flags.fill(0);
+        *t.online = all(t.n);
         t.log.fill([NOTHING; ENTRY]);
         *record = Record::fresh(t.n);
         Made {

@@ -7,7 +7,7 @@ use binding::{Event, Tables};
 use compare::call::Call;
 use compare::damage::{other_full_slice, wrong_number, wrong_size};
 use compare::events;
-use compare::generate::{chain, machine, Style};
+use compare::generate::{chain, full, machine, Style};
 use compare::rng::Rng;
 use compare::tables::ticks_left;
 use side::Pair;
@@ -52,6 +52,7 @@ fn refills(t: &Tables, call: Call) -> bool {
 #[test]
 fn damaged() {
     let mut calls = 0;
+    let mut replugged = 0;
     for case in 0.. {
         let mut rng = Rng::for_case(12, case);
         let style = Style::random(&mut rng);
@@ -67,6 +68,7 @@ fn damaged() {
         if rng.percent(25) {
             other_full_slice(&mut rng, &good).apply(&mut bad);
         }
+        replugged += usize::from(bad.online != good.online);
         let mut pair = Pair::new(bad);
         let event = events::plausible(&mut rng, &good, &style, &pool);
         let find = events::find(&mut rng, style.n);
@@ -79,6 +81,7 @@ fn damaged() {
             break;
         }
     }
+    assert!(replugged > 500, "only {replugged} other online masks");
 }
 
 /// A style of 1 to 64 CPUs, by the number of the case.
@@ -101,6 +104,8 @@ fn settled_from_fresh() {
         live(&mut rng, &style, &pool, Pair::new(fresh), &mut seen, 1000);
     }
     assert!(seen.moved[3..=6].iter().all(|&times| times > 100));
+    assert!(seen.moved[10..].iter().all(|&times| times > 100));
+    assert!(seen.refused[9..=11].iter().all(|&times| times > 100));
 }
 
 /// So is a machine that has accepted an event: here with short slices and long chains of moves.
@@ -116,25 +121,70 @@ fn settled_by_an_event() {
         let mut pair = Pair::new(plan.tables());
         pair.call(Call::Event(event(9, 0)));
         if case < 64 {
-            seen.count(3, pair.settled_event(event(3, 511)));
+            seen.event(&mut pair, event(3, 511));
         }
         live(&mut rng, &style, &pool, pair, &mut seen, 150);
     }
     assert!(seen.moved[3..=8].iter().all(|&times| times > 10));
+    assert!(seen.moved[10..].iter().all(|&times| times > 100));
     assert_eq!(seen.most, 63);
+    assert!(seen.left > 256, "at most {} tasks left a CPU", seen.left);
 }
 
-/// Events of each kind that moved tasks, and the most moves.
+/// The CPUs go out one after the other until one is left, and all come back: with no tasks, or with some that may use any.
+#[test]
+fn until_one_is_left() {
+    let mut seen = Seen::default();
+    for case in 0..128 {
+        let (mut rng, style) = style_of(15, case);
+        let mut pair = Pair::new(Tables::fresh(style.n).expect("1 to 64 CPUs"));
+        for who in 0..rng.pick(&[0, 5, 50, 500]) {
+            let add = Event {
+                a: style.policy(&mut rng).into(),
+                b: style.prio(&mut rng).into(),
+                mask: full(style.n),
+                ..event(1, who)
+            };
+            seen.event(&mut pair, add);
+            seen.event(&mut pair, event(3, who));
+        }
+        let mut cpus: Vec<u32> = (0..style.n as u32).collect();
+        for kinds in [&[10, 7, 8, 9][..], &[11]] {
+            rng.shuffle(&mut cpus);
+            for &cpu in &cpus {
+                for &kind in kinds {
+                    seen.event(&mut pair, event(kind, cpu));
+                }
+            }
+        }
+    }
+    assert!(seen.refused[10..].iter().all(|&times| times > 20));
+    assert!(seen.moved[11] > 1000, "only {} returns", seen.moved[11]);
+    assert!(seen.left > 400, "at most {} tasks left a CPU", seen.left);
+}
+
+/// Events of each kind that moved tasks, and how often each refusal was given; the most moves, and the most tasks that a
+/// CPU had when it went offline.
 #[derive(Default)]
 struct Seen {
-    moved: [usize; 10],
+    moved: [usize; 12],
+    refused: [usize; 13],
     most: u32,
+    left: u16,
 }
 
 impl Seen {
-    fn count(&mut self, kind: u32, outcome: plain::Outcome) {
+    /// An event on a settled machine.
+    fn event(&mut self, pair: &mut Pair, e: Event) {
+        let tasks = pair.ours.counts.get(e.who as usize).copied();
+        let outcome = pair.settled_event(e);
+        match outcome.answer {
+            0 if e.kind == 10 => self.left = self.left.max(tasks.unwrap_or(0)),
+            0 => (),
+            number => self.refused[number as usize] += 1,
+        }
         if outcome.moves > 0 {
-            self.moved[kind as usize] += 1;
+            self.moved[e.kind as usize] += 1;
             self.most = self.most.max(outcome.moves);
         }
     }
@@ -164,6 +214,6 @@ fn live(
             true => events::hostile(rng, &pair.ours, style, pool),
             false => events::plausible(rng, &pair.ours, style, pool),
         };
-        seen.count(e.kind, pair.settled_event(e));
+        seen.event(&mut pair, e);
     }
 }

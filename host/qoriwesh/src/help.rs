@@ -9,14 +9,16 @@ usage: qoriwesh examples [NAME ...]   show the marked examples K1 to K12
        qoriwesh --help | --version
 
 Every answer, move, row and level comes from the proved library. The tool only
-shows them: after each event its answer; the moves, with what each displaced;
-and rows and levels, unless they are as they were.
+shows them: after each event its answer; the tasks that leave a CPU which goes
+offline; the moves, with what each displaced; and rows and levels, unless they
+are as they were.
 
   CPU 2  level  22  task 1 (20)  waiting: 2 (10)
 
 Task 1 of priority 20 runs on CPU 2; task 2 of priority 10 waits for it. An rr
 task also shows the ticks it has left: 1 (20, rr 25). A level is 0 for an idle
-CPU, 1 for one with ordinary work only, and the priority that runs plus 2.
+CPU, 1 for one with ordinary work only, and the priority that runs plus 2. An
+offline CPU has no level.
 
 exit status: 0  all is well
              1  an event was refused, or an example is not as document 01 says
@@ -62,13 +64,18 @@ One command a line; '#' begins a comment; blank lines are skipped.
                                  and goes behind its equals
   yield CPU                      the running task goes behind its equals
   ordinary CPU on|off            the CPU has ordinary work, or none
+  offline CPU                    the CPU is taken out. Its tasks leave, the
+                                 first of them first, each for the lowest-
+                                 numbered online CPU that it may use
+  online CPU                     the CPU is back
   event KIND WHO A B MASK        the five numbers as the library takes them
 
 CPUS is a list as in taskset -c or a cpuset (0-1,3 or 0-7:2) or a mask (0x0b).
 Numbers are decimal. A number that the library can be asked with is passed on,
 also if it is out of range: the library's refusal is shown, with its number from
-document 01, nothing is changed, and the next line follows. A refused 'cpus'
-leaves the earlier machine; without one, each event is refused with 1.
+document 01 (10 to 12: document 02, request L8), nothing is changed, and the
+next line follows. A refused 'cpus' leaves the earlier machine; without one,
+each event is refused with 1.
 
 exit status: 0 if all was accepted, 1 if something was refused, 2 on an error.
 ";

@@ -22,7 +22,7 @@ pub fn moves(after: &Tables, count: u32) -> Result<Vec<Move>, String> {
     entries.map(|entry| read(after, entry)).collect()
 }
 
-/// A mover is where it went, and outranks what was there.
+/// A mover is where it went, and outranks what was there. Both CPUs are online.
 fn read(after: &Tables, entry: binding::Move) -> Result<Move, String> {
     let binding::Move {
         task,
@@ -30,8 +30,9 @@ fn read(after: &Tables, entry: binding::Move) -> Result<Move, String> {
         to,
         displaced,
     } = entry;
-    let (who, n) = (task as usize, after.n as u16);
-    let moved = who < TASKS && from < n && from != to && u16::from(after.cpu[who]) == to;
+    let (who, online) = (task as usize, |cpu: u16| after.is_online(cpu as usize));
+    let between = from != to && online(from) && online(to);
+    let moved = who < TASKS && between && u16::from(after.cpu[who]) == to;
     if !moved || displaced >= u16::from(after.prio[who]) + 2 {
         return Err(format!(
             "the log's ({task},{from},{to},{displaced}) is no move"
@@ -115,7 +116,7 @@ mod tests {
         assert_eq!(message, "64 moves do not fit the log");
     }
 
-    /// Each number of the second entry, and an entry that was never written.
+    /// Each number of the second entry, one of its CPUs offline, and an entry that was never written.
     #[test]
     fn an_entry_that_is_no_move_is_told() {
         let (tables, count) = run(CHAIN);
@@ -132,6 +133,12 @@ mod tests {
             let mut other = tables.clone();
             other.log[place] = value;
             assert!(moves(&other, count).is_err(), "{place} {value}");
+        }
+        for cpu in [1, 2] {
+            let mut other = tables.clone();
+            other.online &= !(1 << cpu);
+            let message = moves(&other, count).unwrap_err();
+            assert!(message.ends_with(" is no move"), "{message}");
         }
         let message = moves(&tables, 3).unwrap_err();
         let unwritten = "the log's (65535,65535,65535,65535) is no move";

@@ -2,6 +2,7 @@
 
 mod cpulist;
 mod cycle;
+mod evacuation;
 mod examples;
 mod explain;
 mod help;

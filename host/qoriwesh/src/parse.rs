@@ -36,7 +36,7 @@ pub struct Problem {
 }
 
 const COMMANDS: &str =
-    "cpus, add, remove, wake, sleep, prio, affinity, tick, yield, ordinary or event";
+    "cpus, add, remove, wake, sleep, prio, affinity, tick, yield, ordinary, offline, online or event";
 
 /// All lines, or every line that cannot be read. A byte order mark may stand before the first.
 pub fn parse(text: &[u8]) -> Result<Vec<Line>, Vec<Problem>> {
@@ -125,6 +125,10 @@ fn read_event(command: &str, rest: &[&str]) -> Result<Event, String> {
         let [task] = exactly(rest, form)?;
         Ok(Event::new(kind, task_number(task)?, 0, 0, 0))
     };
+    let of_cpu = |kind, form| -> Result<Event, String> {
+        let [cpu] = exactly(rest, form)?;
+        Ok(Event::new(kind, cpu_number(cpu)?, 0, 0, 0))
+    };
     match command {
         "add" => read_add(rest),
         "remove" => of_task(2, "remove TASK"),
@@ -144,14 +148,13 @@ fn read_event(command: &str, rest: &[&str]) -> Result<Event, String> {
                 cpulist::read(cpus)?,
             ))
         }
-        "yield" => {
-            let [cpu] = exactly(rest, "yield CPU")?;
-            Ok(Event::new(8, cpu_number(cpu)?, 0, 0, 0))
-        }
+        "yield" => of_cpu(8, "yield CPU"),
         "ordinary" => {
             let [cpu, flag] = exactly(rest, "ordinary CPU on|off")?;
             Ok(Event::new(9, cpu_number(cpu)?, 0, on_or_off(flag)?, 0))
         }
+        "offline" => of_cpu(10, "offline CPU"),
+        "online" => of_cpu(11, "online CPU"),
         "event" => read_raw(rest),
         _ => Err(format!("expected {COMMANDS}, found {}", quoted(command))),
     }
@@ -290,7 +293,9 @@ mod tests {
         is("yield 1", 8, 1, 0, 0, 0);
         is("ordinary 1 on", 9, 1, 0, 1, 0);
         is("ordinary 1 off", 9, 1, 0, 0, 0);
-        is("event 10 1 2 3 0xff", 10, 1, 2, 3, 255);
+        is("offline 1", 10, 1, 0, 0, 0);
+        is("online 1", 11, 1, 0, 0, 0);
+        is("event 12 1 2 3 0xff", 12, 1, 2, 3, 255);
         is("event 3 0 0 0 18446744073709551615", 3, 0, 0, 0, u64::MAX);
     }
 
@@ -334,6 +339,8 @@ mod tests {
         is("add 0 fifo 0 0x0", 1, 0, 1, 0, 0);
         is("yield 4294967295", 8, u32::MAX, 0, 0, 0);
         is("ordinary 0 2", 9, 0, 0, 2, 0);
+        is("offline 64", 10, 64, 0, 0, 0);
+        is("online 4294967295", 11, u32::MAX, 0, 0, 0);
         for cpus in [0, 65, usize::MAX] {
             let slice = None;
             let action = Action::Machine { cpus, slice };
@@ -373,12 +380,16 @@ mod tests {
             ("yield c", "expected a CPU number, found 'c'"),
             ("prio 0 high", "expected a priority, found 'high'"),
             ("ordinary 0 yes", "expected on, off or a number, found 'yes'"),
+            ("offline", "expected 'offline CPU', found nothing after 'offline'"),
+            ("online 0 1", "expected 'online CPU', found 2 words after 'online'"),
+            ("offline 0-1", "expected a CPU number, found '0-1'"),
+            ("online all", "expected a CPU number, found 'all'"),
             ("add 0 fifo 30", "expected 'add TASK POLICY PRIORITY CPUS', found 3 words after 'add'"),
             ("add 0 edf 3 0", "expected a policy (fifo, rr or a number), found 'edf'"),
             ("affinity 0 x", "expected CPUs as a list (0-1,3) or a mask (0x0b), found 'x'"),
             ("affinity 0 64", "expected CPUs 0 to 63, which a mask of 64 bits can name, found '64'"),
             ("event 1 2 3 4 x", "expected a mask, found 'x'"),
-            ("halt 1", "expected cpus, add, remove, wake, sleep, prio, affinity, tick, yield, ordinary or event, found 'halt'"),
+            ("halt 1", "expected cpus, add, remove, wake, sleep, prio, affinity, tick, yield, ordinary, offline, online or event, found 'halt'"),
             ("wake \u{7}", "expected a task number, found '\\u{7}'"),
         ] {
             assert_eq!(one(line), Err(message.to_string()), "{line}");

@@ -1,5 +1,6 @@
-//! Rows, levels and moves as aligned lines of at most 80 columns.
+//! Rows, levels, moves and who leaves a CPU as aligned lines of at most 80 columns.
 
+use crate::evacuation::{Finds, Leaver, Ranked};
 use crate::log::Move;
 use binding::Tables;
 
@@ -17,12 +18,13 @@ pub fn tied(text: &str) -> String {
 struct Cpus {
     first: usize,
     last: usize,
-    level: u8,
+    /// None, if they are offline.
+    level: Option<u8>,
     runs: String,
     waits: String,
 }
 
-/// A line for each CPU: its level, what runs and what waits. Neighbours without a task share a line.
+/// A line for each CPU: its level, what runs and what waits, or that it is offline. Neighbours without a task share a line.
 pub fn state(tables: &Tables) -> Vec<String> {
     let mut shown: Vec<Cpus> = Vec::new();
     for cpu in 0..tables.n {
@@ -34,23 +36,25 @@ pub fn state(tables: &Tables) -> Vec<String> {
     }
     let labels: Vec<String> = shown.iter().map(label).collect();
     let label_width = widest(&labels);
-    let runs_width = shown.iter().map(|cpus| cpus.runs.len()).max().unwrap_or(0);
+    let online = shown.iter().filter(|cpus| cpus.level.is_some());
+    let runs_width = online.map(|cpus| cpus.runs.len()).max().unwrap_or(0);
     let line = |(cpus, label): (&Cpus, &String)| {
-        let Cpus {
-            level, runs, waits, ..
-        } = cpus;
-        format!("{label:<label_width$}  level {level:>3}  {runs:<runs_width$}  {waits}")
-            .trim_end()
-            .to_string()
+        let Cpus { runs, waits, .. } = cpus;
+        let shows = match cpus.level {
+            Some(level) => format!("level {level:>3}  {runs:<runs_width$}  {waits}"),
+            None => runs.clone(),
+        };
+        let line = format!("{label:<label_width$}  {shows}");
+        line.trim_end().to_string()
     };
     shown.iter().zip(&labels).map(line).collect()
 }
 
 fn cpus(tables: &Tables, cpu: usize) -> Cpus {
     let (row, busy) = (tables.row(cpu), tables.flags[cpu] == 1);
+    let online = tables.is_online(cpu);
     let (runs, waits) = match row.split_first() {
-        None if busy => ("ordinary work".to_string(), String::new()),
-        None => ("idle".to_string(), String::new()),
+        None => (without_task(online, busy).to_string(), String::new()),
         Some((&first, rest)) => {
             let mut waits: Vec<String> = rest
                 .iter()
@@ -67,9 +71,19 @@ fn cpus(tables: &Tables, cpu: usize) -> Cpus {
     Cpus {
         first: cpu,
         last: cpu,
-        level: tables.levels[cpu],
+        level: online.then_some(tables.levels[cpu]),
         runs,
         waits,
+    }
+}
+
+/// What a CPU shows whose row is empty. The flag of an offline one says what it has once it is back.
+fn without_task(online: bool, busy: bool) -> &'static str {
+    match (online, busy) {
+        (true, false) => "idle",
+        (true, true) => "ordinary work",
+        (false, false) => "offline",
+        (false, true) => "offline, ordinary work",
     }
 }
 
@@ -101,19 +115,51 @@ pub fn moves(moves: &[Move]) -> Vec<String> {
             format!("level {} -> {}", m.displaced, m.prio + 2),
         ]
     };
-    let rows: Vec<[String; 5]> = moves.iter().enumerate().map(row).collect();
-    let mut widths = [0; 5];
+    aligned(moves.iter().enumerate().map(row).collect())
+}
+
+/// A line for each task that leaves a CPU that is taken offline: who, from where to where, and whom or what it finds there.
+pub fn leavers(leavers: &[Leaver]) -> Vec<String> {
+    let row = |leaver: &Leaver| {
+        let Leaver { from, to, .. } = leaver;
+        [
+            "leaves".to_string(),
+            ranked(leaver.who),
+            format!("CPU {from} -> {to}"),
+            found(leaver.finds),
+        ]
+    };
+    aligned(leavers.iter().map(row).collect())
+}
+
+/// `task 3 (40)`
+fn ranked(Ranked { task, prio }: Ranked) -> String {
+    format!("task {task} ({prio})")
+}
+
+fn found(finds: Finds) -> String {
+    match finds {
+        Finds::Behind(other) => format!("behind {}", ranked(other)),
+        Finds::Before(other) => format!("before {}", ranked(other)),
+        Finds::OrdinaryWork => over(1),
+        Finds::Idle => over(0),
+    }
+}
+
+/// Lines whose cells stand in columns.
+fn aligned<const K: usize>(rows: Vec<[String; K]>) -> Vec<String> {
+    let mut widths = [0; K];
     for row in &rows {
         for (width, cell) in widths.iter_mut().zip(row) {
             *width = cell.len().max(*width);
         }
     }
-    let aligned = |row: &[String; 5]| {
+    let line = |row: &[String; K]| {
         let cell = |(text, width): (&String, &usize)| format!("{text:<width$}");
         let cells: Vec<String> = row.iter().zip(&widths).map(cell).collect();
         cells.join("  ").trim_end().to_string()
     };
-    rows.iter().map(aligned).collect()
+    rows.iter().map(line).collect()
 }
 
 /// What a CPU of this level did.
@@ -232,6 +278,59 @@ mod tests {
                 "CPU 3-63  level   0  idle"
             ]
         );
+    }
+
+    #[test]
+    fn offline_cpus_have_no_level() {
+        let mut tables = Tables::fresh(64).unwrap();
+        let mut event = |kind, who, b| {
+            let event = binding::Event::new(kind, who, 1, b, 1 << 5);
+            assert_eq!(tables.event(event).answer, 0);
+            state(&tables)
+        };
+        event(10, 0, 0);
+        event(10, 1, 0);
+        event(9, 1, 1);
+        event(9, 2, 1);
+        event(10, 3, 0);
+        event(10, 4, 0);
+        event(1, 7, 9);
+        let shown = event(3, 7, 0);
+        assert_eq!(
+            shown,
+            [
+                "CPU 0     offline",
+                "CPU 1     offline, ordinary work",
+                "CPU 2     level   1  ordinary work",
+                "CPU 3-4   offline",
+                "CPU 5     level  11  task 7 (9)",
+                "CPU 6-63  level   0  idle"
+            ]
+        );
+    }
+
+    #[test]
+    fn leavers_say_whom_they_found() {
+        let ranked = |task, prio| Ranked { task, prio };
+        let shown = |task, prio, to, finds| Leaver {
+            who: ranked(task, prio),
+            from: 63,
+            to,
+            finds,
+        };
+        let lines = leavers(&[
+            shown(511, 99, 0, Finds::Before(ranked(510, 98))),
+            shown(7, 99, 10, Finds::Behind(ranked(3, 99))),
+            shown(12, 9, 2, Finds::OrdinaryWork),
+            shown(1, 1, 3, Finds::Idle),
+        ]);
+        let expected = [
+            "leaves  task 511 (99)  CPU 63 -> 0   before task 510 (98)",
+            "leaves  task 7 (99)    CPU 63 -> 10  behind task 3 (99)",
+            "leaves  task 12 (9)    CPU 63 -> 2   over ordinary work",
+            "leaves  task 1 (1)     CPU 63 -> 3   which was idle",
+        ];
+        assert_eq!(lines, expected);
     }
 
     #[test]

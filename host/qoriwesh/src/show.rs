@@ -1,6 +1,7 @@
 //! Runs actions on a machine and shows what each did.
 
 use crate::cycle::Cycle;
+use crate::evacuation::{self, Leaver};
 use crate::log::{self, Move};
 use crate::parse::Action;
 use crate::{render, words};
@@ -32,9 +33,19 @@ impl From<io::Error> for Failure {
 pub struct Step {
     pub answer: u8,
     pub moves: Vec<Move>,
+    /// Who left a CPU that was taken offline, before the moves.
+    pub leavers: Vec<Leaver>,
 }
 
 impl Step {
+    /// An answer, and no task that left or moved.
+    fn of(answer: u8) -> Step {
+        Step {
+            answer,
+            ..Step::default()
+        }
+    }
+
     /// Accepted, and no task moved.
     fn is_quiet(&self) -> bool {
         self.answer == 0 && self.moves.is_empty()
@@ -119,10 +130,7 @@ impl<'a> Show<'a> {
             self.tables = fresh;
             self.made = answer == 0;
         }
-        Ok(Step {
-            answer,
-            moves: Vec::new(),
-        })
+        Ok(Step::of(answer))
     }
 
     /// An event once.
@@ -196,7 +204,7 @@ impl<'a> Show<'a> {
         self.changed(after)
     }
 
-    /// Shows one event, with its moves and the rows after it.
+    /// Shows one event, with who leaves a CPU, its moves and the rows after it.
     fn step(&mut self, number: usize, event: Event, step: &Step) -> Result<(), Failure> {
         let title = words::event(event);
         if step.answer != 0 {
@@ -204,6 +212,9 @@ impl<'a> Show<'a> {
             return self.titled(number, &title, &format!("{why}; nothing was changed"));
         }
         self.titled(number, &title, &words::accepted(step.moves.len()))?;
+        for line in render::leavers(&step.leavers) {
+            self.line(&line)?;
+        }
         for line in render::moves(&step.moves) {
             self.line(&line)?;
         }
@@ -261,21 +272,23 @@ pub fn make(n: usize, slice: Option<u32>) -> (Tables, Made) {
     (tables, made)
 }
 
-/// The outcome with its moves. That a refusal changes nothing is looked at.
+/// The outcome with its moves, and with who left a CPU before them. That a refusal changes nothing is looked at.
 fn judged(before: &Tables, e: Event, after: &Tables, outcome: Outcome) -> Result<Step, String> {
     let Outcome { answer, moves } = outcome;
     if answer == 0 {
         let moves = log::moves(after, moves)?;
-        return Ok(Step { answer, moves });
+        let leavers = evacuation::leavers(before, e, after, &moves)?;
+        return Ok(Step {
+            answer,
+            moves,
+            leavers,
+        });
     }
     if before != after || moves != 0 {
         let event = words::event(e);
         return Err(format!("refusal {answer} of '{event}' changed something"));
     }
-    Ok(Step {
-        answer,
-        moves: Vec::new(),
-    })
+    Ok(Step::of(answer))
 }
 
 #[cfg(test)]
@@ -384,10 +397,31 @@ mod tests {
         assert_eq!(end(&"tick 0 700\n".repeat(13)), single, "13 lines");
     }
 
+    /// What is remembered of earlier ticks has another online mask.
+    #[test]
+    fn ticks_leave_a_cpu_offline() {
+        let ticks = "tick 0 500\noffline 1\ntick 0 500\ntick 0 501\nonline 1\ntick 0 501";
+        let (text, tally) = told(&format!("cpus 2 slice 2\nadd 0 rr 9 0\nwake 0\n{ticks}"));
+        for (slice, cpu) in [
+            (2, "level   0  idle"),
+            (2, "offline"),
+            (1, "offline"),
+            (1, "level   0  idle"),
+        ] {
+            let task = format!("CPU 0  level  11  task 0 (9, rr {slice})");
+            let rows = format!("      {task}\n      CPU 1  {cpu}\n");
+            assert!(text.contains(&rows), "{text}");
+        }
+        assert_eq!((tally.accepted, tally.refused), (2 + 2002 + 2, 0));
+    }
+
     #[test]
     fn refused_ticks_are_not_repeated() {
         let (text, tally) = told("cpus 2\ntick 2 50");
         assert_eq!(text.matches("refused (4)").count(), 1);
+        assert_eq!(tally.refused, 1);
+        let (text, tally) = told("cpus 2\noffline 1\ntick 1 50");
+        assert_eq!(text.matches("refused (11)").count(), 1);
         assert_eq!(tally.refused, 1);
     }
 
@@ -395,6 +429,48 @@ mod tests {
     fn rows_are_shown_when_they_changed() {
         let (text, _) = told("cpus 1\nadd 0 fifo 9 0\nwake 0\ntick 0\nprio 0 9");
         assert_eq!(text.matches("CPU 0  level").count(), 1, "{text}");
+    }
+
+    #[test]
+    fn who_leaves_is_shown_before_the_moves() {
+        let tasks = "add 0 fifo 9 0-2\nadd 1 fifo 5 1-2\nwake 0\nwake 1";
+        let (text, tally) = told(&format!("cpus 3\n{tasks}\noffline 0"));
+        let lines = [
+            "   6  take CPU 0 offline                                    accepted, 1 move",
+            "      leaves  task 0 (9)  CPU 0 -> 1  before task 1 (5)",
+            "      move 1  task 1 (5)  CPU 1 -> 2  which was idle  level 0 -> 7",
+            "      CPU 0  offline",
+            "      CPU 1  level  11  task 0 (9)",
+            "      CPU 2  level   7  task 1 (5)",
+        ];
+        assert!(text.ends_with(&(lines.join("\n") + "\n")), "{text}");
+        assert_eq!((tally.accepted, tally.moves), (5, 1));
+    }
+
+    #[test]
+    fn rows_that_contradict_their_moves_are_a_defect() {
+        let mut tables = Tables::fresh(2).unwrap();
+        for event in [Event::new(1, 0, 1, 9, 3), Event::new(3, 0, 0, 0, 0)] {
+            assert_eq!(tables.event(event).answer, 0);
+        }
+        let offline = Event::new(10, 0, 0, 0, 0);
+        let mut after = tables.clone();
+        let outcome = after.event(offline);
+        assert!(judged(&tables, offline, &after, outcome).is_ok());
+        after.counts[1] = 0;
+        assert!(judged(&tables, offline, &after, outcome).is_err());
+    }
+
+    #[test]
+    fn a_refusal_that_changes_the_online_mask_is_a_defect() {
+        let tables = Tables::fresh(2).unwrap();
+        let mut other = tables.clone();
+        other.online = 1;
+        let (answer, moves) = (12, 0);
+        let refused = Outcome { answer, moves };
+        let offline = Event::new(10, 1, 0, 0, 0);
+        assert!(judged(&tables, offline, &tables, refused).is_ok());
+        assert!(judged(&tables, offline, &other, refused).is_err());
     }
 
     #[test]

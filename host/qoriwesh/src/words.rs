@@ -48,6 +48,8 @@ pub fn event(e: Event) -> String {
             1 => format!("ordinary work on CPU {who}"),
             _ => format!("ordinary work {b} on CPU {who}"),
         },
+        10 => format!("take CPU {who} offline"),
+        11 => format!("bring CPU {who} online"),
         _ => format!("event {kind} {who} {a} {b} {mask:#x}"),
     }
 }
@@ -123,7 +125,54 @@ fn reason(answer: u8, e: Event, tables: &Tables) -> String {
         7 => format!("a priority is 1 to 99, not {}", e.b),
         8 => wrong_mask(e.mask, tables.n),
         9 => format!("CPU {} has no task that could yield", e.who),
-        _ => "for a reason unknown to this tool".to_string(),
+        10 => nowhere(e, tables).unwrap_or_else(unknown),
+        11 => wrong_cpu_state(e),
+        12 => format!("CPU {} is the last online CPU", e.who),
+        _ => unknown(),
+    }
+}
+
+fn unknown() -> String {
+    "for a reason unknown to this tool".to_string()
+}
+
+/// Which task would have no allowed CPU that is online. Of the tasks of a CPU that is to go, the first such one.
+fn nowhere(e: Event, tables: &Tables) -> Option<String> {
+    let who = e.who as usize;
+    let mask = |task: usize| tables.mask[task];
+    match e.kind {
+        3 => {
+            let offline = only(mask(who), "is", "are all");
+            Some(format!("task {who} may use {offline}"))
+        }
+        6 => {
+            let offline = only(e.mask, "is", "are all");
+            Some(format!("task {who} is runnable and could use {offline}"))
+        }
+        10 => {
+            let left = tables.online & !(1 << who);
+            let mut row = tables.row(who).iter().map(|&task| task as usize);
+            let task = row.find(|&task| mask(task) & left == 0)?;
+            let offline = only(mask(task), "would be", "would all be");
+            Some(format!("task {task} may use {offline}"))
+        }
+        _ => None,
+    }
+}
+
+/// `CPU 0 only, which is offline`, `CPUs 0-1 only, which are all offline`: `is` of one CPU, `are` of several.
+fn only(mask: u64, is: &str, are: &str) -> String {
+    let verb = if mask.count_ones() == 1 { is } else { are };
+    format!("{} only, which {verb} offline", cpus(mask))
+}
+
+/// Whether the CPU is offline or online, and the event needs the other.
+fn wrong_cpu_state(e: Event) -> String {
+    let who = e.who;
+    match e.kind {
+        10 => format!("CPU {who} is offline already"),
+        11 => format!("CPU {who} is online already"),
+        _ => format!("CPU {who} is offline"),
     }
 }
 
@@ -163,16 +212,22 @@ mod tests {
     use crate::parse::{parse, Action};
     use crate::show;
 
-    /// Each refusal, on a machine of two CPUs with task 0 runnable and task 1 asleep.
+    /// Each refusal that document 01 has, on a machine of two CPUs with task 0 runnable and task 1 asleep.
     #[test]
     fn every_refusal_says_why() {
         for (line, expected) in [
             (
-                "event 10 0 0 0 0",
-                "refused (3): there is no event of kind 10",
+                "event 12 0 0 0 0",
+                "refused (3): there is no event of kind 12",
+            ),
+            (
+                "event 0 0 0 0 0",
+                "refused (3): there is no event of kind 0",
             ),
             ("wake 600", "refused (4): tasks are 0 to 511, not 600"),
             ("tick 2", "refused (4): CPUs are 0 to 1, not 2"),
+            ("offline 2", "refused (4): CPUs are 0 to 1, not 2"),
+            ("online 64", "refused (4): CPUs are 0 to 1, not 64"),
             (
                 "add 1 fifo 5 0",
                 "refused (5): task 1 is there already and is asleep",
@@ -208,6 +263,72 @@ mod tests {
             let text = format!("cpus 2\nadd 0 fifo 9 0\nadd 1 rr 9 0\nwake 0\n{line}");
             assert_eq!(last_answer(&text), expected, "{line}");
         }
+    }
+
+    /// Refusals 10 to 12, on a machine of four CPUs of which CPUs 2 and 3 are offline. Tasks 0 and 1 stand on CPU 0, of which
+    /// task 1 cannot go; task 2 is asleep.
+    #[test]
+    fn every_refusal_about_offline_cpus_says_why() {
+        for (line, expected) in [
+            (
+                "offline 0",
+                "refused (10): task 1 may use CPU 0 only, which would be offline",
+            ),
+            (
+                "wake 2",
+                "refused (10): task 2 may use CPUs 2-3 only, which are all offline",
+            ),
+            (
+                "affinity 2 3\nwake 2",
+                "refused (10): task 2 may use CPU 3 only, which is offline",
+            ),
+            (
+                "affinity 1 2",
+                "refused (10): task 1 is runnable and could use CPU 2 only, which is offline",
+            ),
+            (
+                "affinity 1 2-3",
+                "refused (10): task 1 is runnable and could use CPUs 2-3 only, which are all offline",
+            ),
+            (
+                "affinity 1 0,2-3\noffline 0",
+                "refused (10): task 1 may use CPUs 0,2-3 only, which would all be offline",
+            ),
+            (
+                "offline 1\noffline 0",
+                "refused (10): task 0 may use CPUs 0-1 only, which would all be offline",
+            ),
+            ("tick 2", "refused (11): CPU 2 is offline"),
+            ("yield 3", "refused (11): CPU 3 is offline"),
+            ("offline 3", "refused (11): CPU 3 is offline already"),
+            ("online 0", "refused (11): CPU 0 is online already"),
+            (
+                "sleep 0\nsleep 1\noffline 0\noffline 1",
+                "refused (12): CPU 1 is the last online CPU",
+            ),
+        ] {
+            let tasks = "add 0 fifo 9 0-1\nadd 1 rr 9 0\nadd 2 fifo 9 2-3\nwake 0\nwake 1";
+            let text = format!("cpus 4\n{tasks}\noffline 2\noffline 3\n{line}");
+            assert_eq!(last_answer(&text), expected, "{line}");
+        }
+    }
+
+    /// A refusal that does not fit the tables is not explained.
+    #[test]
+    fn a_reason_that_is_not_there_is_not_made_up() {
+        let tables = Tables::zeroed(2);
+        let offline = Event::new(10, 0, 0, 0, 0);
+        let unknown = "for a reason unknown to this tool";
+        assert_eq!(reason(10, offline, &tables), unknown);
+        assert_eq!(reason(13, offline, &tables), unknown);
+    }
+
+    #[test]
+    fn kinds_10_and_11_in_words() {
+        let raw = |kind, who| event(Event::new(kind, who, 1, 2, 3));
+        assert_eq!(raw(10, 3), "take CPU 3 offline");
+        assert_eq!(raw(11, 64), "bring CPU 64 online");
+        assert_eq!(raw(12, 3), "event 12 3 1 2 0x3");
     }
 
     /// Without a machine, which of its numbers was wrong.

@@ -85,8 +85,16 @@ fn the_walk_is_as_recorded() {
 }
 
 #[test]
+fn cpus_that_go_and_come_back_are_as_recorded() {
+    let ended = run(&["explain", &script("tests/scripts/hotplug.txt")], b"");
+    held(&ended.out, "tests/golden/hotplug.txt");
+    assert_eq!((ended.status, ended.err.as_str()), (1, ""));
+}
+
+#[test]
 fn every_line_fits_80_columns() {
-    for path in ["tests/golden/examples.txt", "tests/golden/walk.txt"] {
+    for name in ["examples", "hotplug", "walk"] {
+        let path = &format!("tests/golden/{name}.txt");
         for line in fs::read_to_string(here(path)).unwrap().lines() {
             assert!(line.chars().count() <= 80, "{path}: {line}");
             assert_eq!(line, line.trim_end(), "{path}");
@@ -98,18 +106,26 @@ fn every_line_fits_80_columns() {
     }
 }
 
-/// The worked example of docs/TOOL.md is what the program says.
+/// The blocks of a page with this title.
+fn blocks<'a>(page: &'a str, title: &str) -> Vec<&'a str> {
+    let title = format!("```{title}\n");
+    let begun = page.split(&title).skip(1);
+    begun
+        .map(|text| text.split("```").next().unwrap())
+        .collect()
+}
+
+/// The two worked examples of docs/TOOL.md are what the program says.
 #[test]
 fn the_page_shows_what_the_program_says() {
     let page = fs::read_to_string(here("../../docs/TOOL.md")).unwrap();
-    let block = |title: &str| {
-        let start = page.find(&format!("```{title}\n")).expect(title) + title.len() + 4;
-        let end = start + page[start..].find("```").unwrap();
-        page[start..end].to_string()
-    };
-    let ended = run(&["explain"], block("events").as_bytes());
-    assert_eq!(ended.out, block("output"));
-    assert_eq!(ended.status, 1);
+    let (events, outputs) = (blocks(&page, "events"), blocks(&page, "output"));
+    assert_eq!((events.len(), outputs.len()), (2, 2));
+    for (events, output) in events.iter().zip(outputs) {
+        let ended = run(&["explain"], events.as_bytes());
+        assert_eq!(ended.out, output);
+        assert_eq!(ended.status, 1);
+    }
     let help = run(&["help", "explain"], b"").out;
     assert!(
         page.contains(&help),

@@ -6,7 +6,9 @@ use crate::migrate::{self, settle, Step};
 use crate::mutant::Mutant;
 use crate::record::Record;
 use crate::refuse::{refusal, wrong_size};
-use crate::tables::{mask_right, Event, Tables, DEFAULT_SLICE, ENTRY, INVALID, NOTHING};
+use crate::tables::{
+    allows, mask_right, Event, Tables, DEFAULT_SLICE, ENTRIES, ENTRY, INVALID, NOTHING,
+};
 use crate::wellformed::well_formed;
 
 /// "Accepted is 0 with the number of moves [...] A refusal reports 0 moves"
@@ -47,12 +49,17 @@ pub fn make_fresh(t: &mut Tables, m: Mutant) -> Made {
     let Some(full_slice) = t.full_slice(m) else {
         return refused(2); // With an error alone.
     };
+    let online = t.online;
     Machine::fresh(t.n, full_slice).write(t, m);
     if m != Mutant::FreshKeepsLog {
         t.log.fill(NOTHING);
     }
-    if m == Mutant::FreshMissingIdle {
-        t.levels.fill(0);
+    match m {
+        Mutant::FreshMissingIdle => t.levels.fill(0),
+        Mutant::FreshOneOnline => t.online = 1,
+        Mutant::FreshKeepsOnline => t.online = online,
+        Mutant::FreshAllBitsOnline => t.online = u64::MAX,
+        _ => (),
     }
     Made {
         answer: 0,
@@ -89,18 +96,19 @@ pub fn check(t: &Tables, m: Mutant) -> u8 {
 pub fn event(t: &mut Tables, e: Event, m: Mutant) -> Outcome {
     let answer = refusal(t, e, m);
     if answer != 0 {
-        if m == Mutant::RefusalWritesLog {
-            t.log.fill(NOTHING);
+        match m {
+            Mutant::RefusalWritesLog => t.log.fill(NOTHING),
+            Mutant::RefusalTakesOut if e.kind == 10 && answer >= 10 => t.online &= !(1 << e.who),
+            _ => (),
         }
         return Outcome { answer, moves: 0 };
     }
     let mut machine = Machine::read(t, m);
-    own_effect(&mut machine, e, m);
-    let steps = if stops(t, &machine, e, m) {
-        Vec::new()
-    } else {
-        settle(&mut machine, m)
-    };
+    let mut steps = own_effect(&mut machine, e, m);
+    if !stops(t, &machine, e, m) {
+        steps.extend(settle(&mut machine, m));
+    }
+    steps.truncate(ENTRIES); // With an error alone.
     let before = Record::lent(t);
     machine.write(t, m);
     write_log(t, &steps, m);
@@ -114,6 +122,8 @@ fn stops(t: &Tables, machine: &Machine, e: Event, m: Mutant) -> bool {
     match m {
         Mutant::NoStepAfterNothing => machine.tasks == Machine::read(t, m).tasks,
         Mutant::NoStepAfterLowered => e.kind == 5 && e.b < u32::from(t.prio[e.who as usize]),
+        Mutant::NoStepAfterOffline => e.kind == 10,
+        Mutant::NoStepAfterOnline => e.kind == 11,
         _ => false,
     }
 }
@@ -154,15 +164,28 @@ fn entry(step: &Step, m: Mutant) -> [u16; ENTRY] {
 
 /// The errors of a record that is not kept up to date. The paper's behaviour is to do nothing here.
 fn spoil_record(t: &mut Tables, before: Record, e: Event, m: Mutant) {
-    match m {
-        Mutant::SleepKeepsLevel if e.kind == 4 => before.hand_back(t),
-        Mutant::OldMaskStays => {
-            for c in 0..t.n {
+    let cpu = e.who as usize;
+    match (m, e.kind) {
+        (Mutant::SleepKeepsLevel, 4) => before.hand_back(t),
+        (Mutant::OldMaskStays, _) => {
+            for c in (0..t.n).filter(|&c| before.levels[c] != INVALID) {
                 t.level_masks[before.levels[c] as usize] |= 1 << c;
             }
         }
+        (Mutant::OrdinaryRaisesOffline, 9) if !allows(t.online, cpu) => {
+            set_level(t, cpu, e.b as u8)
+        }
+        (Mutant::OfflineKeepsLevel, 10) => set_level(t, cpu, before.levels[cpu]),
+        (Mutant::BackIdle, 11) if t.levels[cpu] == 1 => set_level(t, cpu, 0),
         _ => (),
     }
+}
+
+/// The record of the same levels but for one CPU.
+fn set_level(t: &mut Tables, cpu: usize, level: u8) {
+    let mut levels = t.levels[..t.n].to_vec();
+    levels[cpu] = level;
+    Record::of(&levels).hand_back(t);
 }
 
 /// "asked with N, a record, a level 0 to 101 and a mask"
@@ -181,7 +204,8 @@ pub fn find(t: &Tables, level: u32, mask: u64, m: Mutant) -> Found {
         return nothing(1);
     }
     let record = Record::lent(t);
-    if !record.consistent(t.n, m) {
+    let offline = m == Mutant::FinderRefusesInvalid && record.has_offline(t.n);
+    if offline || !record.consistent(t.n, m) {
         return nothing(2);
     }
     if level > 101 {

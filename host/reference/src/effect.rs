@@ -1,13 +1,15 @@
 //! What an event does by itself, before any migration. The event has been found acceptable.
 
 use crate::machine::{Machine, Task};
+use crate::migrate::{settle, Step};
 use crate::mutant::Mutant;
 use crate::tables::{allows, cpus_of, Event};
 use std::cmp::Ordering::{Equal, Greater, Less};
 
-/// The table of events, a line each.
-pub(crate) fn own_effect(machine: &mut Machine, e: Event, m: Mutant) {
-    let id = e.who as u16;
+/// The table of events, a line each, and L8's two. The steps are those that an error takes here; "an event's own leaving and
+/// entering is none".
+pub(crate) fn own_effect(machine: &mut Machine, e: Event, m: Mutant) -> Vec<Step> {
+    let (id, cpu) = (e.who as u16, e.who as usize);
     match e.kind {
         1 => add(machine, e, m),
         2 => remove(machine, id),
@@ -15,20 +17,32 @@ pub(crate) fn own_effect(machine: &mut Machine, e: Event, m: Mutant) {
         4 => sleep(machine, id, m),
         5 => set_prio(machine, id, e.b as u8, m),
         6 => set_mask(machine, id, e.mask, m),
-        7 => tick(machine, e.who as usize, m),
-        8 => yields(machine, e.who as usize, m),
-        _ => machine.ordinary[e.who as usize] = e.b == 1,
+        7 => tick(machine, cpu, m),
+        8 => yields(machine, cpu, m),
+        9 => set_ordinary(machine, cpu, e.b == 1, m),
+        10 => return take_offline(machine, cpu, m),
+        11 => bring_online(machine, cpu, m),
+        _ => (), // With an error alone: kinds are 1 to 11.
     }
+    Vec::new()
 }
 
 fn lowest_allowed(mask: u64) -> usize {
     cpus_of(mask)[0]
 }
 
-/// "asleep, CPU the lowest-numbered allowed", and the full slice: "kinds 1 and 7 use that number"
+/// The lowest-numbered CPU that is allowed and online. With an error there may be none.
+fn lowest_online(machine: &Machine, mask: u64) -> usize {
+    let allowed = machine.allowed(mask);
+    allowed.first().copied().unwrap_or(lowest_allowed(mask))
+}
+
+/// "asleep, CPU the lowest-numbered allowed", online or not: "add keeps document 01's wording". And the full slice: "kinds 1
+/// and 7 use that number".
 fn add(machine: &mut Machine, e: Event, m: Mutant) {
     let cpu = match m {
         Mutant::AddOnCpuZero => 0,
+        Mutant::AddOnOnline => lowest_online(machine, e.mask),
         _ => lowest_allowed(e.mask),
     };
     let slice = match m {
@@ -52,16 +66,22 @@ fn remove(machine: &mut Machine, id: u16) {
 }
 
 /// "runnable; enters the row of its CPU if allowed, else of the lowest-numbered allowed CPU, which becomes its
-/// CPU; slice kept"
+/// CPU; slice kept". Allowed is "allowed and online".
 fn wake(machine: &mut Machine, id: u16, m: Mutant) {
     if m == Mutant::WakeSliceRefilled {
         machine.refill(id);
     }
-    let task = machine.task(id);
-    let stays = allows(task.mask, task.cpu) && m != Mutant::WakeForgetsCpu;
-    let cpu = match stays || m == Mutant::WakeIgnoresMask {
-        true => task.cpu,
-        false => lowest_allowed(task.mask),
+    let (mask, own) = (machine.tasks[&id].mask, machine.tasks[&id].cpu);
+    let stays = match m {
+        Mutant::WakeForgetsCpu => false,
+        Mutant::WakeIgnoresMask => true,
+        Mutant::WakeOwnOffline => allows(mask, own),
+        _ => machine.allowed(mask).contains(&own),
+    };
+    let cpu = match m {
+        _ if stays => own,
+        Mutant::WakeLowestOffline => lowest_allowed(mask),
+        _ => lowest_online(machine, mask),
     };
     machine.enter(id, cpu);
 }
@@ -97,17 +117,22 @@ fn set_prio(machine: &mut Machine, id: u16, prio: u8, m: Mutant) {
 }
 
 /// "asleep: the mask only. Runnable and its CPU still allowed: the mask only. Else leaves, and enters the row of
-/// the lowest-numbered allowed CPU"
+/// the lowest-numbered allowed CPU". Allowed is "allowed and online".
 fn set_mask(machine: &mut Machine, id: u16, mask: u64, m: Mutant) {
+    let allowed = machine.allowed(mask);
     let task = machine.task(id);
     task.mask = mask;
-    let stays = allows(mask, task.cpu) && m != Mutant::MaskAlwaysMoves;
+    let stays = allowed.contains(&task.cpu) && m != Mutant::MaskAlwaysMoves;
     let asleep = task.arrival.is_none();
     if asleep && m == Mutant::MaskMovesSleeper {
         task.cpu = lowest_allowed(mask);
     }
     if !asleep && !stays {
-        machine.enter(id, lowest_allowed(mask));
+        let cpu = match m {
+            Mutant::MaskToOffline => lowest_allowed(mask),
+            _ => lowest_online(machine, mask),
+        };
+        machine.enter(id, cpu);
     }
 }
 
@@ -142,4 +167,82 @@ fn yields(machine: &mut Machine, cpu: usize, m: Mutant) {
         Mutant::YieldBeforeEquals => machine.enter_before_equals(id, cpu),
         _ => machine.enter(id, cpu),
     }
+}
+
+/// "the flag is b"; "Ordinary work on an offline CPU sets only the flag."
+fn set_ordinary(machine: &mut Machine, cpu: usize, ordinary: bool, m: Mutant) {
+    if machine.online[cpu] || m != Mutant::OrdinaryLostOffline {
+        machine.ordinary[cpu] = ordinary;
+    }
+}
+
+/// "its tasks leave front to back, each entering the lowest-numbered allowed online CPU"
+fn take_offline(machine: &mut Machine, cpu: usize, m: Mutant) -> Vec<Step> {
+    let mut leaving = machine.rows()[cpu].clone();
+    if m == Mutant::LeaveBackToFront {
+        leaving.reverse();
+    }
+    machine.online[cpu] = m == Mutant::LeaveToItself;
+    let mut steps = Vec::new();
+    for id in leaving {
+        if m == Mutant::LeavingLogged {
+            steps.push(as_step(machine, id, cpu));
+        }
+        leave(machine, id, m);
+        if m == Mutant::StepsBetweenLeaving {
+            steps.extend(settle(machine, m));
+        }
+    }
+    machine.online[cpu] = false;
+    machine.ordinary[cpu] &= m != Mutant::OfflineLosesFlag;
+    if m == Mutant::SleepersLeave {
+        move_sleepers(machine, cpu);
+    }
+    steps
+}
+
+/// The task goes to another CPU than the one that it stood on.
+fn leave(machine: &mut Machine, id: u16, m: Mutant) {
+    let mask = machine.tasks[&id].mask;
+    let lowest = lowest_online(machine, mask);
+    let to = match m {
+        Mutant::LeaveToHighest => machine.allowed(mask).last().copied().unwrap_or(lowest),
+        _ => lowest,
+    };
+    match m {
+        Mutant::LeaveBeforeEquals => machine.enter_before_equals(id, to),
+        _ => machine.enter(id, to),
+    }
+    if m == Mutant::LeaveSliceRefilled {
+        machine.refill(id);
+    }
+}
+
+/// The error of taking it for a migration.
+fn as_step(machine: &Machine, id: u16, from: usize) -> Step {
+    let to = lowest_online(machine, machine.tasks[&id].mask);
+    Step {
+        task: id,
+        from,
+        to,
+        level: machine.levels(&machine.rows(), Mutant::None)[to],
+    }
+}
+
+/// The error of sending sleepers away too.
+fn move_sleepers(machine: &mut Machine, cpu: usize) {
+    let online = machine.online.clone();
+    let asleep = |task: &&mut Task| task.arrival.is_none() && task.cpu == cpu;
+    for task in machine.tasks.values_mut().filter(asleep) {
+        let allowed = |&c: &usize| online[c];
+        if let Some(to) = cpus_of(task.mask).into_iter().find(allowed) {
+            task.cpu = to;
+        }
+    }
+}
+
+/// "kind 11 brings it back": its row is empty, so its level is its flag.
+fn bring_online(machine: &mut Machine, cpu: usize, m: Mutant) {
+    machine.online[cpu] = true;
+    machine.ordinary[cpu] &= m != Mutant::BackLosesFlag;
 }

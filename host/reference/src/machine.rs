@@ -2,7 +2,7 @@
 
 use crate::mutant::Mutant;
 use crate::record::Record;
-use crate::tables::{Tables, NOTHING, TASKS};
+use crate::tables::{allows, Tables, INVALID, NOTHING, TASKS};
 use std::cmp::Reverse;
 use std::collections::BTreeMap;
 
@@ -26,6 +26,8 @@ pub struct Machine {
     pub tasks: BTreeMap<u16, Task>,
     /// "An ordinary-work flag per CPU"
     pub ordinary: Vec<bool>,
+    /// "the machine gains an online mask"
+    pub online: Vec<bool>,
     /// Later than every arrival, and its negative earlier.
     clock: i64,
     /// Who stands before all of its row, whatever its priority. For mutants only.
@@ -38,13 +40,14 @@ pub(crate) fn level_of_prio(prio: u8) -> u8 {
 }
 
 impl Machine {
-    /// "A fresh machine has all places free, rows empty, flags 0"
+    /// "A fresh machine has all places free, rows empty, flags 0", and its online mask is "all N when fresh".
     pub fn fresh(n: usize, full_slice: u16) -> Machine {
         Machine {
             n,
             full_slice,
             tasks: BTreeMap::new(),
             ordinary: vec![false; n],
+            online: vec![true; n],
             clock: 0,
             before_all: None,
         }
@@ -55,6 +58,7 @@ impl Machine {
         let full_slice = t.full_slice(m).expect("a full slice in range");
         let mut machine = Machine::fresh(t.n, full_slice);
         machine.ordinary = t.flags.iter().map(|&flag| flag == 1).collect();
+        machine.online = (0..t.n).map(|c| allows(t.online, c)).collect();
         machine.clock = t.rows.len() as i64 + 1;
         for i in (0..TASKS).filter(|&i| t.state[i] != 0) {
             let task = Task {
@@ -77,6 +81,12 @@ impl Machine {
 
     pub fn task(&mut self, id: u16) -> &mut Task {
         self.tasks.get_mut(&id).expect("the place has a task")
+    }
+
+    /// "'Allowed' in placing and moving now means allowed and online": these CPUs of a mask, ascending.
+    pub(crate) fn allowed(&self, mask: u64) -> Vec<usize> {
+        let allowed = |&c: &usize| allows(mask, c) && self.online[c];
+        (0..self.n).filter(allowed).collect()
     }
 
     /// The task has a full slice again.
@@ -124,9 +134,11 @@ impl Machine {
         rows
     }
 
-    /// "0 idle, 1 ordinary work only, priority p at p+2": what each row's first task makes it.
+    /// "0 idle, 1 ordinary work only, priority p at p+2": what each row's first task makes it. "An offline CPU has [...]
+    /// level INVALID."
     pub fn levels(&self, rows: &[Vec<u16>], m: Mutant) -> Vec<u8> {
         let level = |c: usize| match rows[c].first() {
+            _ if !self.online[c] && m != Mutant::OfflineAtFlag => INVALID,
             Some(id) => level_of_prio(self.tasks[id].prio),
             None => u8::from(self.ordinary[c] && m != Mutant::OrdinaryUncounted),
         };
@@ -157,6 +169,8 @@ impl Machine {
             t.counts[c] = row.len() as u16;
             t.flags[c] = u8::from(self.ordinary[c]);
         }
+        let online = (0..self.n).filter(|&c| self.online[c]);
+        t.online = online.map(|c| 1u64 << c).sum();
         Record::of(&self.levels(&rows, m)).hand_back(t);
     }
 }

@@ -51,7 +51,10 @@ fn take(machine: &mut Machine, step: Step, m: Mutant) {
 /// among those the earliest in the row."
 fn next_step(machine: &Machine, m: Mutant) -> Option<Step> {
     let rows = machine.rows();
-    let levels = machine.levels(&rows, m);
+    let levels = match m {
+        Mutant::OfflineReceives => machine.levels(&rows, Mutant::OfflineAtFlag),
+        _ => machine.levels(&rows, m),
+    };
     let mut movable = Vec::new();
     for (cpu, row) in rows.iter().enumerate() {
         let running = usize::from(m != Mutant::RunningMoves);
@@ -87,7 +90,7 @@ fn sort_key(prio: u8, cpu: usize, place: usize, m: Mutant) -> (Reverse<i64>, i64
     }
 }
 
-/// "A task is movable if it waits and some allowed CPU has a level below the task's level": those CPUs.
+/// "A task is movable if it waits and some allowed CPU has a level below the task's level": those CPUs, of the online ones.
 fn below(machine: &Machine, levels: &[u8], id: u16, own: usize, m: Mutant) -> Vec<usize> {
     let task = &machine.tasks[&id];
     let level = level_of_prio(task.prio);
@@ -95,7 +98,11 @@ fn below(machine: &Machine, levels: &[u8], id: u16, own: usize, m: Mutant) -> Ve
         Mutant::EqualOutranks => levels[*c] <= level && *c != own,
         _ => levels[*c] < level,
     };
-    cpus_of(task.mask).into_iter().filter(outranked).collect()
+    let allowed = match m {
+        Mutant::OfflineReceives => cpus_of(task.mask),
+        _ => machine.allowed(task.mask),
+    };
+    allowed.into_iter().filter(outranked).collect()
 }
 
 /// "of its allowed CPUs, one of the lowest level; among equals the lowest-numbered"

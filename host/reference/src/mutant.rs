@@ -108,6 +108,88 @@ mutants! {
     RemoveLeavesSlice,
     /// ordinary work does not raise an empty row's level
     OrdinaryUncounted,
+    /// tasks leave a CPU that goes offline back to front
+    LeaveBackToFront,
+    /// tasks leave for the highest-numbered allowed online CPU
+    LeaveToHighest,
+    /// tasks that leave go before their equals
+    LeaveBeforeEquals,
+    /// tasks that leave get a full slice
+    LeaveSliceRefilled,
+    /// a CPU that goes offline counts as online for its own tasks
+    LeaveToItself,
+    /// that a task leaves a CPU that goes offline is logged and counted
+    LeavingLogged,
+    /// migrations follow each task that leaves
+    StepsBetweenLeaving,
+    /// sleepers leave a CPU that goes offline too
+    SleepersLeave,
+    /// a CPU that goes offline keeps its level
+    OfflineKeepsLevel,
+    /// a CPU that goes offline loses its flag
+    OfflineLosesFlag,
+    /// an offline CPU is at the level of its flag
+    OfflineAtFlag,
+    /// tasks move to offline CPUs
+    OfflineReceives,
+    /// no migration after a CPU goes offline
+    NoStepAfterOffline,
+    /// no migration after a CPU comes back
+    NoStepAfterOnline,
+    /// a CPU that comes back has level 0, whatever its flag
+    BackIdle,
+    /// a CPU that comes back has flag 0
+    BackLosesFlag,
+    /// an added task has the lowest-numbered allowed online CPU
+    AddOnOnline,
+    /// an add without an allowed online CPU is refused with 10
+    AddNowhereRefused,
+    /// a woken task goes to its CPU even where that is offline
+    WakeOwnOffline,
+    /// a woken task whose CPU is not allowed goes to the lowest-numbered allowed one, online or not
+    WakeLowestOffline,
+    /// a wake without an allowed online CPU is not refused
+    WakeNowherePasses,
+    /// a new mask sends a task to the lowest-numbered allowed CPU, online or not
+    MaskToOffline,
+    /// a runnable task's mask without an online CPU is not refused
+    MaskNowherePasses,
+    /// a sleeper's mask without an online CPU is refused with 10
+    SleeperMaskRefused,
+    /// ordinary work on an offline CPU does not set the flag
+    OrdinaryLostOffline,
+    /// ordinary work on an offline CPU is its level
+    OrdinaryRaisesOffline,
+    /// ordinary work on an offline CPU is refused with 11
+    OrdinaryRefusedOffline,
+    /// a tick on an offline CPU is nothing, as on any empty row
+    TickOfflinePasses,
+    /// to take an offline CPU offline is nothing
+    AlreadyOfflinePasses,
+    /// to bring an online CPU back is nothing
+    AlreadyOnlinePasses,
+    /// the last online CPU goes offline
+    LastGoes,
+    /// a runnable task with no other allowed online CPU does not keep its CPU online
+    PinnedGoes,
+    /// whether a CPU may go offline is asked of its running task alone
+    NowhereOfRunning,
+    /// a sleeper with no other allowed online CPU keeps its CPU online
+    NowhereOfSleepers,
+    /// refusal 10 is looked for before 8
+    NowhereBeforeMask,
+    /// refusal 9 is given where 11 fits too
+    EmptyBeforeOffline,
+    /// refusal 12 is looked for before 10
+    LastBeforeNowhere,
+    /// with one CPU online, to take any offline is refused with 12
+    LastWhichever,
+    /// refusal 4 does not cover kind 10
+    OfflineCpuUnchecked,
+    /// kind 12 is accepted, as nothing
+    KindTwelvePasses,
+    /// a refused kind 10 clears the bit of the online mask
+    RefusalTakesOut,
     /// refusal 5 is looked for before 4
     StateBeforeNumber,
     /// refusal 6 is looked for before 5
@@ -128,6 +210,12 @@ mutants! {
     FreshKeepsLog,
     /// a fresh machine's missing CPUs have level 0
     FreshMissingIdle,
+    /// of a fresh machine CPU 0 alone is online
+    FreshOneOnline,
+    /// a fresh machine keeps the old online mask
+    FreshKeepsOnline,
+    /// a fresh machine's online mask has all 64 bits
+    FreshAllBitsOnline,
     /// the maker that is told no full slice gives 100
     DefaultHundred,
     /// a refused maker hands back the full slice
@@ -166,8 +254,22 @@ mutants! {
     MissingCpusUnchecked,
     /// a record that is consistent in itself passes for any rows (W6)
     LevelsUnrelated,
+    /// an online mask of 0 passes
+    OnlineZeroPasses,
+    /// an online mask with bits at N or above passes
+    OnlinePastPasses,
+    /// tasks may stand in an offline CPU's row
+    OfflineRowPasses,
+    /// an offline CPU may have any level
+    OfflineLevelUnchecked,
+    /// an online CPU may have level INVALID
+    OnlineInvalidPasses,
+    /// a sleeper's CPU must be online
+    SleeperCpuOnline,
     /// the finder refuses a full slice out of range, which it is not asked with
     FinderChecksSlice,
+    /// the finder refuses a record with INVALID below N
+    FinderRefusesInvalid,
     /// the finder takes the asked level too
     FinderTakesEqual,
     /// the finder answers all CPUs of the level, allowed or not

@@ -54,11 +54,11 @@ impl Record {
     }
 
     /// "The record is consistent in itself for N (masks, counts, words and levels say the same; levels of CPUs
-    /// below N are 0 to 101 but never 2; word bits 102 to 127 are clear)"
+    /// below N are 0 to 101 but never 2; word bits 102 to 127 are clear)"; and "a record may now hold INVALID below N"
     ///
     /// Levels leave no choice for the rest, so the rest is compared with what the levels make it.
     pub(crate) fn consistent(&self, n: usize, m: Mutant) -> bool {
-        let used = |&l: &u8| l <= 101 && (l != 2 || m == Mutant::LevelTwoPasses);
+        let used = |&l: &u8| l == INVALID || l <= 101 && (l != 2 || m == Mutant::LevelTwoPasses);
         let mut given = self.clone();
         match m {
             Mutant::HighBitsUnchecked => given.words[1] &= (1 << (LEVELS - 64)) - 1,
@@ -66,6 +66,11 @@ impl Record {
             _ => (),
         }
         self.levels[..n].iter().all(used) && given == Record::of(&self.levels[..n])
+    }
+
+    /// Whether some CPU below N is at INVALID.
+    pub(crate) fn has_offline(&self, n: usize) -> bool {
+        self.levels[..n].contains(&INVALID)
     }
 
     /// "the lowest level below the asked one that has an allowed CPU, with those CPUs as a mask, or none"

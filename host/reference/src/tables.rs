@@ -13,7 +13,7 @@ pub const ENTRY: usize = 4;
 pub const LOG: usize = ENTRIES * ENTRY;
 /// "unused places hold 65535"
 pub const NOTHING: u16 = 65535;
-/// "INVALID is 255, held by CPU places N and up, in no mask."
+/// "INVALID is 255, held by CPU places N and up, in no mask", and by offline CPUs
 pub const INVALID: u8 = 255;
 /// "25 by a second maker told none"
 pub const DEFAULT_SLICE: u32 = 25;
@@ -28,7 +28,7 @@ pub struct Event {
     pub mask: u64,
 }
 
-/// N, the full slice and the fourteen tables.
+/// N, the full slice, the fourteen tables and the online mask.
 #[derive(Clone, Debug, PartialEq, Eq)]
 pub struct Tables {
     pub n: usize,
@@ -43,6 +43,8 @@ pub struct Tables {
     pub rows: Vec<u16>,
     pub counts: Vec<u16>,
     pub flags: Vec<u8>,
+    /// "the machine gains an online mask": any number here, as it is handed in.
+    pub online: u64,
     pub log: Vec<u16>,
     pub level_masks: Vec<u64>,
     pub level_counts: Vec<u8>,
@@ -65,6 +67,7 @@ impl Tables {
             rows: vec![7; TASKS * n],
             counts: vec![7; n],
             flags: vec![7; n],
+            online: 7,
             log: vec![7; LOG],
             level_masks: vec![7; LEVELS],
             level_counts: vec![7; LEVELS],

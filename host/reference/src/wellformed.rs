@@ -1,13 +1,14 @@
-//! W1 to W6, each as it is written. All but the lengths may be wrong here.
+//! W1 to W6 and what L8, "Take a core out", adds to refusal 2, each as it is written. All but the lengths may be wrong here.
 
 use crate::machine::level_of_prio;
 use crate::mutant::Mutant;
 use crate::record::Record;
-use crate::tables::{allows, mask_right, Tables, NOTHING, TASKS};
+use crate::tables::{allows, mask_right, Tables, CPUS, INVALID, NOTHING, TASKS};
 
 /// "W1 to W6 fail anywhere", denied. Of tables of the right lengths. The later ones may rely on the earlier.
 pub(crate) fn well_formed(t: &Tables, m: Mutant) -> bool {
-    w1(t, m) && w2(t, m) && w3(t, m) && w4(t, m) && w5(t, m) && w6(t, m)
+    let by_number = w1(t, m) && w2(t, m) && w3(t, m) && w4(t, m) && w5(t, m) && w6(t, m);
+    by_number && online_right(t, m)
 }
 
 /// "State is 0, 1 or 2. A free place holds 0 in all its columns."
@@ -49,6 +50,7 @@ fn w2(t: &Tables, m: Mutant) -> bool {
             && (least..=most).contains(&t.slice[i])
             && mask_right(t.mask[i], t.n)
             && !(m == Mutant::SleeperCpuAllowed && stray(i))
+            && (m != Mutant::SleeperCpuOnline || allows(t.online, t.cpu[i] as usize))
     })
 }
 
@@ -93,12 +95,27 @@ fn w5(t: &Tables, m: Mutant) -> bool {
 }
 
 /// "The record is consistent in itself for N [...], and each CPU's level is its first task's priority plus 2 or,
-/// for an empty row, its flag."
+/// for an empty row, its flag." Of an offline one it is INVALID: "a record may now hold INVALID below N, for offline CPUs
+/// only".
 fn w6(t: &Tables, m: Mutant) -> bool {
     let due = |c: usize| match t.listed(c).first() {
+        _ if !allows(t.online, c) => INVALID,
         Some(&task) => level_of_prio(t.prio[task as usize]),
         None => t.flags[c],
     };
-    Record::lent(t).consistent(t.n, m)
-        && (m == Mutant::LevelsUnrelated || (0..t.n).all(|c| t.levels[c] == due(c)))
+    let right = |c: usize| match m {
+        Mutant::LevelsUnrelated => true,
+        Mutant::OfflineLevelUnchecked if !allows(t.online, c) => true,
+        Mutant::OnlineInvalidPasses if t.levels[c] == INVALID => true,
+        _ => t.levels[c] == due(c),
+    };
+    Record::lent(t).consistent(t.n, m) && (0..t.n).all(right)
+}
+
+/// "Refusal 2 also covers an online mask of 0 or with bits at N or above"; "An offline CPU has an empty row".
+fn online_right(t: &Tables, m: Mutant) -> bool {
+    let empty = |c: usize| t.counts[c] == 0 || m == Mutant::OfflineRowPasses;
+    let none = t.online == 0 && m != Mutant::OnlineZeroPasses;
+    let past = (t.n..CPUS).any(|c| allows(t.online, c)) && m != Mutant::OnlinePastPasses;
+    !none && !past && (0..t.n).all(|c| allows(t.online, c) || empty(c))
 }

@@ -1,7 +1,7 @@
 //! K1 to K12 of the paper on the reference alone, and the sentences of some requests. L2, "Say what was displaced": with it
 //! "K2, K5, K8 follow (the fourth numbers are 0; 22 and 12; 0)", and so do the moves of K7 and K10, to idle CPUs. L3,
 //! "Lowered priority goes in front": with it "K11 becomes [0,1]". L7, "Shorter slice by default": "K9 is run with 100 named",
-//! and so are the others here.
+//! and so are the others here. L8, "Take a core out": K1 to K12 keep all CPUs online.
 
 use reference::{check, event, find, make_fresh, make_fresh_default, Event, Made, Mutant, Tables};
 
@@ -70,6 +70,30 @@ impl Run {
 
     fn prio(&mut self, who: u32, prio: u32) -> &mut Run {
         self.does(5, who, 0, prio, 0)
+    }
+
+    fn mask(&mut self, who: u32, mask: u64) -> &mut Run {
+        self.does(6, who, 0, 0, mask)
+    }
+
+    fn ordinary(&mut self, cpu: u32, flag: u32) -> &mut Run {
+        self.does(9, cpu, 0, flag, 0)
+    }
+
+    fn offline(&mut self, cpu: u32) -> &mut Run {
+        self.does(10, cpu, 0, 0, 0)
+    }
+
+    fn online(&mut self, cpu: u32) -> &mut Run {
+        self.does(11, cpu, 0, 0, 0)
+    }
+
+    /// "A refusal reports 0 moves and changes nothing."
+    fn refuses(&mut self, kind: u32, who: u32, mask: u64, number: u8) -> &mut Run {
+        let before = self.t.clone();
+        assert_eq!(self.answer(kind, who, 1, 1, mask), number);
+        assert_eq!((self.moves, &self.t), (0, &before));
+        self
     }
 
     fn rows(&self) -> Vec<Vec<u16>> {
@@ -556,4 +580,298 @@ fn l7_a_longer_slice_from_an_event_on() {
     assert_eq!(run.rows(), [[1, 0]]);
     run.t.full_slice = 2;
     assert_eq!(check(&run.t, Mutant::None), 2);
+}
+
+/// "its tasks leave front to back, each entering the lowest-numbered allowed online CPU"; "An offline CPU has an empty row and
+/// level INVALID." Back, it is idle, and the highest that waits goes to it.
+#[test]
+fn l8_running_and_waiting_tasks_leave() {
+    let mut run = Run::fresh(2);
+    assert_eq!(run.t.online, 3);
+    run.add(0, 50, 3).add(1, 40, 3).add(2, 30, 3);
+    run.wake(0).wake(1).wake(2);
+    assert_eq!(run.rows(), [vec![0, 2], vec![1]]);
+    run.offline(0);
+    assert_eq!(run.rows(), [vec![], vec![0, 1, 2]]);
+    assert_eq!((run.t.online, run.moves), (2, 0));
+    assert_eq!(run.t.levels[..2], [255, 52]);
+    assert_eq!(run.t.cpu[..3], [1, 1, 1]);
+    assert!(run.t.level_masks.iter().all(|mask| mask & 1 == 0));
+    assert_eq!(run.t.level_counts.iter().sum::<u8>(), 1);
+    run.online(0);
+    assert_eq!(run.log(), [1, 1, 0, 0]);
+    assert_eq!(run.rows(), [vec![1], vec![0, 2]]);
+    assert_eq!(run.t.online, 3);
+    assert_eq!(run.t.levels[..2], [42, 52]);
+}
+
+/// Each enters "behind every task of the same or a higher priority", so front to back keeps the order among equals.
+#[test]
+fn l8_equals_keep_their_order() {
+    let mut run = Run::fresh(2);
+    run.add(0, 40, 3).add(1, 40, 3).add(2, 40, 2);
+    run.wake(2).wake(0).wake(1);
+    assert_eq!(run.rows(), [vec![0, 1], vec![2]]);
+    run.offline(0);
+    assert_eq!(run.rows(), [vec![], vec![2, 0, 1]]);
+}
+
+/// Three masks, each with another lowest-numbered CPU beside the one that goes; the CPUs there run higher tasks.
+#[test]
+fn l8_each_by_its_mask() {
+    let mut run = Run::fresh(4);
+    run.add(10, 90, 1).add(11, 90, 4).add(12, 90, 8);
+    run.wake(10).wake(11).wake(12);
+    run.add(0, 60, 10).add(1, 50, 6).add(2, 40, 2);
+    run.wake(0).wake(1).wake(2).mask(2, 3);
+    assert_eq!(run.rows(), [vec![10], vec![0, 1, 2], vec![11], vec![12]]);
+    run.offline(1);
+    assert_eq!(run.rows(), [vec![10, 2], vec![], vec![11, 1], vec![12, 0]]);
+    assert_eq!((run.moves, run.t.online), (0, 13));
+    assert_eq!(run.t.levels[..4], [92, 255, 92, 92]);
+    assert_eq!(run.t.cpu[..3], [3, 2, 0]);
+}
+
+/// "then migrations follow": task 0 displaces task 1, which goes to the idle CPU. That task 0 left is no migration.
+#[test]
+fn l8_migrations_follow() {
+    let mut run = Run::fresh(3);
+    run.add(0, 50, 3).add(1, 40, 6).wake(0).wake(1);
+    run.offline(0);
+    assert_eq!(run.log(), [1, 1, 2, 0]);
+    assert_eq!(run.rows(), [vec![], vec![0], vec![1]]);
+}
+
+/// "10, a runnable task [...] would have no allowed online CPU": one that waits too, and no sleeper.
+#[test]
+fn l8_a_pinned_task_keeps_its_cpu_online() {
+    let mut run = Run::fresh(2);
+    run.add(0, 50, 3).add(1, 40, 1).add(2, 30, 1);
+    run.wake(0).wake(1);
+    assert_eq!(run.rows(), [vec![0, 1], vec![]]);
+    run.refuses(10, 0, 0, 10);
+    run.does(4, 1, 0, 0, 0).offline(0);
+    assert_eq!(run.rows(), [vec![], vec![0]]);
+    assert_eq!(run.t.cpu[..3], [1, 0, 0]);
+}
+
+/// "12, kind 10 for the last online CPU", and 10 before it; "11, [...] kind 10 or 11 where it is already so"
+#[test]
+fn l8_the_last_and_already_so() {
+    let mut run = Run::fresh(2);
+    run.refuses(11, 0, 0, 11).refuses(11, 1, 0, 11);
+    run.offline(1);
+    run.refuses(10, 1, 0, 11).refuses(10, 0, 0, 12);
+    run.add(0, 50, 3).wake(0);
+    run.refuses(10, 0, 0, 10).refuses(10, 1, 0, 11);
+    run.online(1).refuses(11, 1, 0, 11);
+    Run::fresh(1).refuses(10, 0, 0, 12).refuses(11, 0, 0, 11);
+}
+
+/// "11, tick or yield on an offline CPU"; "Where 9 and 11 both fit, 11 is given."
+#[test]
+fn l8_tick_and_yield() {
+    let mut run = Run::fresh(2);
+    run.refuses(8, 1, 0, 9).does(7, 1, 0, 0, 0);
+    run.offline(1);
+    run.refuses(8, 1, 0, 11).refuses(7, 1, 0, 11);
+    run.refuses(8, 0, 0, 9).does(7, 0, 0, 0, 0);
+}
+
+/// "Refusal 3 is for kinds not 1 to 11, refusal 4's CPU check covers 10 and 11"
+#[test]
+fn l8_numbers() {
+    let mut run = Run::fresh(2);
+    run.refuses(0, 0, 0, 3).refuses(12, 0, 0, 3);
+    for who in [2, 3, 64, 65, 256, u32::MAX] {
+        run.refuses(10, who, 0, 4).refuses(11, who, 0, 4);
+    }
+    let mut widest = Run::fresh(64);
+    widest.offline(63).online(63).refuses(10, 64, 0, 4);
+}
+
+/// A wake goes to its CPU if that is allowed and online, else to the lowest-numbered such; "10, [...] the task woken"
+#[test]
+fn l8_a_wake_without_its_cpu() {
+    let mut run = Run::fresh(3);
+    run.add(0, 50, 6).add(1, 40, 2).add(2, 30, 3);
+    run.offline(1).wake(0);
+    assert_eq!((run.t.cpu[0], run.moves), (2, 0));
+    run.refuses(3, 1, 0, 10).wake(2);
+    assert_eq!(run.rows(), [vec![2], vec![], vec![0]]);
+    run.does(4, 0, 0, 0, 0).online(1).wake(0).wake(1);
+    assert_eq!(run.rows(), [[2], [1], [0]]);
+}
+
+/// "10, [...] the runnable task whose mask changes"; a sleeper's may be one of offline CPUs only.
+#[test]
+fn l8_a_mask_of_offline_cpus() {
+    let mut run = Run::fresh(3);
+    run.add(0, 50, 1).add(1, 40, 1).wake(0).offline(1);
+    run.refuses(6, 0, 2, 10)
+        .refuses(6, 0, 8, 8)
+        .refuses(6, 0, 0, 8);
+    run.mask(1, 2);
+    assert_eq!((run.t.mask[1], run.t.cpu[1]), (2, 0));
+    run.refuses(3, 1, 0, 10);
+    run.mask(0, 6);
+    assert_eq!(run.rows(), [vec![], vec![], vec![0]]);
+    run.mask(0, 7);
+    assert_eq!(run.rows(), [vec![], vec![], vec![0]]);
+}
+
+/// "add keeps document 01's wording": the lowest-numbered CPU of the mask, online or not.
+#[test]
+fn l8_an_add_looks_at_the_mask_alone() {
+    let mut run = Run::fresh(2);
+    run.offline(0).add(0, 50, 3).add(1, 40, 1);
+    assert_eq!(run.t.cpu[..2], [0, 0]);
+    run.wake(0).refuses(3, 1, 0, 10);
+    assert_eq!(run.t.cpu[..2], [1, 0]);
+}
+
+/// No task goes to an offline CPU, whatever its flag.
+#[test]
+fn l8_no_move_to_an_offline_cpu() {
+    let mut run = Run::fresh(3);
+    run.offline(1).add(0, 50, 7).add(1, 40, 7).add(2, 30, 3);
+    run.wake(0).wake(1);
+    assert_eq!(run.log(), [1, 0, 2, 0]);
+    run.wake(2);
+    assert_eq!(run.rows(), [vec![0, 2], vec![], vec![1]]);
+    assert_eq!(run.moves, 0);
+}
+
+/// "Ordinary work on an offline CPU sets only the flag." Back, its level is its flag, and that is what a move displaces.
+#[test]
+fn l8_ordinary_work_on_an_offline_cpu() {
+    let mut run = Run::fresh(2);
+    let seen = |run: &Run| (run.t.flags[1], run.t.levels[1]);
+    run.offline(1).ordinary(1, 1);
+    assert_eq!(seen(&run), (1, 255));
+    run.online(1);
+    assert_eq!(seen(&run), (1, 1));
+    run.offline(1);
+    assert_eq!(seen(&run), (1, 255));
+    run.ordinary(1, 0);
+    assert_eq!(seen(&run), (0, 255));
+    run.online(1);
+    assert_eq!(seen(&run), (0, 0));
+    run.offline(1).ordinary(1, 1);
+    run.add(0, 50, 3).add(1, 40, 3).wake(0).wake(1).online(1);
+    assert_eq!(run.log(), [1, 0, 1, 1]);
+    assert_eq!(seen(&run), (1, 42));
+}
+
+/// Task c runs on CPU c, each lower than the one before. CPU 0 goes, then 1 and so on: task 0 goes to the next, and who ran
+/// there to the CPU of the lowest, if another is left. Back, each CPU in turn gets the highest that waits.
+#[test]
+fn l8_one_after_the_other() {
+    let mut run = Run::fresh(64);
+    for task in 0..64 {
+        run.add(task, 99 - task, u64::MAX).wake(task);
+    }
+    assert_eq!(run.rows(), (0..64).map(|task| [task]).collect::<Vec<_>>());
+    for cpu in 0..62 {
+        run.offline(cpu);
+        assert_eq!(run.t.online, u64::MAX << (cpu + 1));
+        assert_eq!(run.t.rows[512 * (cpu as usize + 1)], 0);
+        assert!((run.moves as usize) < 63 - cpu as usize);
+    }
+    run.offline(62);
+    assert_eq!((run.moves, run.t.online), (0, 1 << 63));
+    assert_eq!(run.rows()[63], (0..64).collect::<Vec<u16>>());
+    assert_eq!(run.t.level_counts.iter().sum::<u8>(), 1);
+    run.refuses(10, 63, 0, 10);
+    for cpu in 0..63 {
+        run.online(cpu);
+        assert_eq!(run.log(), [cpu as u16 + 1, 63, cpu as u16, 0]);
+    }
+    assert_eq!(run.t.online, u64::MAX);
+    assert_eq!(run.t.counts, [1; 64]);
+}
+
+/// "Refusal 2 also covers an online mask of 0 or with bits at N or above"; an offline CPU with a task in its row or with
+/// another level than INVALID; and INVALID at an online one.
+#[test]
+fn l8_ill_formed() {
+    let mut run = Run::fresh(3);
+    run.add(0, 50, 1).wake(0).offline(2);
+    let good = run.t.clone();
+    let asked = |t: &Tables| (check(t, Mutant::None), t.online);
+    for online in [0, 1 | 8, 1 << 63, 3 | 1 << 63, u64::MAX] {
+        let t = Tables {
+            online,
+            ..good.clone()
+        };
+        assert_eq!(asked(&t), (2, online));
+    }
+    for (online, answer) in [(1, 2), (2, 2), (3, 0), (7, 2)] {
+        let t = Tables {
+            online,
+            ..good.clone()
+        };
+        assert_eq!(asked(&t), (answer, online));
+    }
+    let levels = |online, levels: &[u8]| {
+        let mut t = Tables {
+            online,
+            ..good.clone()
+        };
+        let record = reference::Record::of(levels);
+        t.level_masks = record.masks;
+        t.level_counts = record.counts;
+        t.level_words = record.words;
+        t.levels = record.levels;
+        (
+            check(&t, Mutant::None),
+            find(&t, 101, 7, Mutant::None).answer,
+        )
+    };
+    assert_eq!(levels(3, &[52, 0, 255]), (0, 0));
+    assert_eq!(levels(3, &[52, 0, 0]), (2, 0));
+    assert_eq!(levels(7, &[52, 0, 0]), (0, 0));
+    assert_eq!(levels(7, &[52, 0, 255]), (2, 0));
+    assert_eq!(levels(1, &[52, 255, 255]), (0, 0));
+    assert_eq!(levels(2, &[255, 0, 255]), (2, 0));
+    assert_eq!(levels(0, &[255, 255, 255]), (2, 0));
+}
+
+/// "the finder takes any" record that holds INVALID below N, and finds no such CPU.
+#[test]
+fn l8_the_finder_with_offline_cpus() {
+    let mut run = Run::fresh(3);
+    run.offline(0).ordinary(1, 1);
+    let ask = |level, mask| {
+        let found = find(&run.t, level, mask, Mutant::None);
+        (found.answer, found.level, found.mask)
+    };
+    assert_eq!(ask(101, 7), (0, 0, 4));
+    assert_eq!(ask(101, 3), (0, 1, 2));
+    assert_eq!(ask(101, 1), (0, 255, 0));
+}
+
+/// "Old table contents don't matter to the fresh maker", and a refused one changes nothing.
+#[test]
+fn l8_fresh_is_all_online() {
+    for (n, online) in [(1, 1), (2, 3), (63, u64::MAX >> 1), (64, u64::MAX)] {
+        for old in [0, 1, u64::MAX] {
+            let mut t = Tables {
+                online: old,
+                ..Tables::blank(n, 100)
+            };
+            assert_eq!(make_fresh(&mut t, Mutant::None), made(100));
+            assert_eq!((t.online, check(&t, Mutant::None)), (online, 0));
+            t.online = old;
+            assert_eq!(make_fresh_default(&mut t, Mutant::None), made(25));
+            assert_eq!(t.online, online);
+            t = Tables {
+                full_slice: 0,
+                online: old,
+                ..t
+            };
+            assert_eq!(make_fresh(&mut t, Mutant::None), REFUSED);
+            assert_eq!(t.online, old);
+        }
+    }
 }

@@ -1,6 +1,5 @@
 -- `evacuation::bring_online` meets its contract.
 -- Assumes nothing.
-use mathlib.Core.Path.{refl}
 use Rattle.rules.specs.Machine.{withCpu}
 use Rattle.evacuation.proofs.Leaves.{small-back, whole-back, back-follows, levels-back}
 use Rattle.evacuation.proofs.bring_online.Statement.{statement}

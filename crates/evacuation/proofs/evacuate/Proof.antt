@@ -4,7 +4,7 @@ use borrow.Author.Needs.{needs}
 use mathlib.Core.Path.{_≡_, sym, _∙_}
 use Prim.Native.Nat.{ℕ, _<_}
 use native.Mathlib.Omega.{arith}
-use lib.ListN.{length, getD}
+use lib.ListN.{getD}
 use Rattle.cpupri.specs.Record.{lentRecord}
 use Rattle.rules.specs.Machine.{Machine}
 use Rattle.evacuation.specs.Going.{Emptying}

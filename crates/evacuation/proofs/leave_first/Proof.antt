@@ -1,11 +1,11 @@
 -- `evacuation::leave_first` meets its contract.
 -- Assumes nothing.
 use borrow.Author.Needs.{needs}
-use Prim.Native.Nat.{ℕ, _*_}
+use Prim.Native.Nat.{_*_}
 use native.Mathlib.Omega.{arith}
 use lib.ListN.{getD}
 use Rattle.rules.specs.Machine.{dequeue}
-use Rattle.evacuation.proofs.Leaves.{whole, small, long, cpus-long, masks-long, a-task, in-place, target-is, may-leave, follows, enters, one-gone}
+use Rattle.evacuation.proofs.Leaves.{whole, small, cpus-long, masks-long, a-task, in-place, target-is, may-leave, follows, enters, one-gone}
 use Rattle.evacuation.proofs.leave_first.Statement.{statement}
 use Rattle.evacuation.proofs.leave_first.Tie as tie
 use Rattle.evacuation.proofs.leave_first.Proof.Paths as at

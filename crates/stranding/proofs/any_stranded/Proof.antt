@@ -1,6 +1,5 @@
 -- `stranding::any_stranded` meets its contract. The loop's invariant: the tasks passed have somewhere to go.
 -- Assumes nothing.
-use borrow.Author.Needs.{needs}
 use borrow.Author.Count.{below-more}
 use mathlib.Core.Logic.{_≢_}
 use Prim.Native.Nat.{ℕ, _-_, _≤_, _<_}

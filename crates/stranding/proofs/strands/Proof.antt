@@ -1,6 +1,5 @@
 -- `stranding::strands` meets its contract.
 -- Assumes nothing.
-use borrow.Author.Needs.{needs}
 use native.Mathlib.Omega.{arith}
 use Rattle.stranding.proofs.Looking.{other-kind, counted, few, no-cpu, fits, most, listed, looked}
 use Rattle.stranding.proofs.strands.Statement.{statement}

@@ -148,6 +148,7 @@ fn tables(t: &binding::Tables) -> Option<Tables> {
         rows: rows.collect::<Option<_>>()?,
         counts: t.counts.clone(),
         flags: t.flags.clone(),
+        online: t.online,
         log: log.collect::<Option<_>>()?,
     })
 }

@@ -20,23 +20,26 @@ enum-told-2 c = search needs
 enum-known-past : tie.Need-enum-known-past
 enum-known-past c = search needs
 
+enum-known-past-2 : tie.Need-enum-known-past-2
+enum-known-past-2 c = search needs
+
 new-task-requires : tie.Need-new-task-requires
 new-task-requires c κs =
     let k = at.new-task-requires c in
     let p = k .pre .1 in
-    (subst (Standing (k .pre .0)) (k .past .given .1) (p .2) .0, (k .pre .0, (unlevelled (p .0), p .1)))
+    (subst (Standing (k .pre .0)) (k .past2 .given .1) (p .2) .0, (k .pre .0, (unlevelled (p .0), p .1)))
 
 element-copy-out-if1 : tie.Need-element-copy-out-if1
 element-copy-out-if1 c =
     let k = at.element-copy-out-if1 c in
-    let low = subst (Standing (k .pre .0)) (k .past .given .1) (k .pre .1 .2) .1 in
+    let low = subst (Standing (k .pre .0)) (k .past2 .given .1) (k .pre .1 .2) .1 in
     omega (arith, few (k .pre .1 .0))
 
 returns : tie.Need-returns
 returns c =
     λ m r is s.
     let k = at.returns c in
-    let g = k .past .given in
+    let g = k .past2 .given in
     hint-is r (g .0 .0) (g .0 .1 .0) (g .0 .1 .1 .0) (g .0 .1 .1 .1 .0) (k .args .past) (g .1) (subst (Standing m) (g .1) s .1) _
     (k .new-task .ensures m (unlevelled r) is) _ (k .if1 .taken)
 
@@ -47,13 +50,16 @@ returns-3 : tie.Need-returns-3
 returns-3 c = λ m r is s. ap (λ (p : Past). hintAfter p m) (sym (at.returns-3 c .enum-told2 .given .1))
 
 returns-4 : tie.Need-returns-4
-returns-4 c =
+returns-4 c = λ m r is s. ap (λ (p : Past). hintAfter p m) (sym (at.returns-4 c .past .given .1))
+
+returns-5 : tie.Need-returns-5
+returns-5 c =
     λ m r is s.
-    let k = at.returns-4 c in
-    let g = k .past .given in
+    let k = at.returns-5 c in
+    let g = k .past2 .given in
     hint-is r (g .0 .0) (g .0 .1 .0) (g .0 .1 .1 .0) (g .0 .1 .1 .1 .0) (k .args .past) (g .1) (subst (Standing m) (g .1) s .1) _
     (k .new-task .ensures m (unlevelled r) is) _ (k .if1 .left)
 
 pub hint-spec : {M : Type 1} → statement M
 hint-spec =
-    at.close enum-told enum-told-2 enum-known-past new-task-requires element-copy-out-if1 returns returns-2 returns-3 returns-4
+    at.close enum-told enum-told-2 enum-known-past enum-known-past-2 new-task-requires element-copy-out-if1 returns returns-2 returns-3 returns-4 returns-5

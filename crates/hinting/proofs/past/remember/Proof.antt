@@ -2,7 +2,7 @@
 -- Assumes nothing.
 use borrow.Author.Needs.{needs}
 use mathlib.Core.Path.{_∙_}
-use Rattle.hinting.proofs.Lent.{unknown-past, able-task, decided-past}
+use Rattle.hinting.proofs.Lent.{unknown-past, able-task, able-gone, decided-past}
 use Rattle.hinting.proofs.past.remember.Statement.{statement}
 use Rattle.hinting.proofs.past.remember.Tie as tie
 use Rattle.hinting.proofs.past.remember.Proof.Paths as at
@@ -28,11 +28,16 @@ enum-told-2 c = search needs
 enum-told-3 : tie.Need-enum-told-3
 enum-told-3 c = search needs
 
-enum-told-4 : tie.Need-enum-told-4
-enum-told-4 c = search needs
+enum-known-decision-2 : tie.Need-enum-known-decision-2
+enum-known-decision-2 c = search needs
 
-enum-told-5 : tie.Need-enum-told-5
-enum-told-5 c = search needs
+runner-requires : tie.Need-runner-requires
+runner-requires c κs =
+    let k = at.runner-requires c in
+    (k .pre .0, (k .pre .1 .0, able-gone (k .pre .0) (k .args .decision) (k .pre .1 .1) (k .decision2 .given .1)))
+
+enum-known-decision-3 : tie.Need-enum-known-decision-3
+enum-known-decision-3 c = search needs
 
 returns-2 : tie.Need-returns-2
 returns-2 c = λ m r. let k = at.returns-2 c in k .standing .ensures m r ∙ decided-past m (k .args .decision) _ (k .args .settled) (k .if1 .left) (k .decision .given .1)
@@ -47,12 +52,12 @@ returns-5 : tie.Need-returns-5
 returns-5 c = λ m r. let k = at.returns-5 c in decided-past m (k .args .decision) _ (k .args .settled) (k .if1 .left) (k .enum-told3 .given .1)
 
 returns-6 : tie.Need-returns-6
-returns-6 c = λ m r. let k = at.returns-6 c in decided-past m (k .args .decision) _ (k .args .settled) (k .if1 .left) (k .enum-told4 .given .1)
+returns-6 c = λ m r. let k = at.returns-6 c in k .runner .ensures m r ∙ decided-past m (k .args .decision) _ (k .args .settled) (k .if1 .left) (k .decision2 .given .1)
 
 returns-7 : tie.Need-returns-7
-returns-7 c = λ m r. let k = at.returns-7 c in decided-past m (k .args .decision) _ (k .args .settled) (k .if1 .left) (k .enum-told5 .given .1)
+returns-7 c = λ m r. let k = at.returns-7 c in decided-past m (k .args .decision) _ (k .args .settled) (k .if1 .left) (k .decision3 .given .1)
 
 pub remember-spec : {M : Type 1} → statement M
 remember-spec =
-    at.close returns enum-known-decision standing-requires enum-told enum-told-2 enum-told-3 enum-told-4 enum-told-5 returns-2 returns-3 returns-4 returns-5
-    returns-6 returns-7
+    at.close returns enum-known-decision standing-requires enum-told enum-told-2 enum-told-3 enum-known-decision-2 runner-requires enum-known-decision-3
+    returns-2 returns-3 returns-4 returns-5 returns-6 returns-7

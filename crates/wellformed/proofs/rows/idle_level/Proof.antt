@@ -1,7 +1,7 @@
 -- `wellformed::rows::idle_level` meets its contract.
 -- Assumes nothing.
 use borrow.Author.Needs.{needs}
-use mathlib.Core.Path.{_≡_, sym, ap, _∙_}
+use mathlib.Core.Path.{sym, ap, _∙_}
 use mathlib.Core.Bool.{Bool, cond}
 use Rattle.rules.specs.Machine.{invalid}
 use Rattle.wellformed.proofs.rows.idle_level.Statement.{statement}

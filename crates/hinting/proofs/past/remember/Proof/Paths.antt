@@ -42,23 +42,29 @@ at-match-keys4 c = let b = else1 (c .before) in record { args = b .args; if1 = b
 abbrev pub after-enum-told3 : (c : tie.After-enum-told3) → let b = at-match-keys4 (c .before) in record { args : typeOf (b .args); if1 : typeOf (b .if1); enum-told3 : typeOf (c .enum-told3) }
 after-enum-told3 c = let b = at-match-keys4 (c .before) in record { args = b .args; if1 = b .if1; enum-told3 = c .enum-told3 }
 
-abbrev pub at-match-keys5 : (c : tie.At-match-keys5) → let b = else1 (c .before) in record { args : typeOf (b .args); if1 : typeOf (b .if1) }
-at-match-keys5 c = let b = else1 (c .before) in record { args = b .args; if1 = b .if1 }
+abbrev pub at-match-keys5 : (c : tie.At-match-keys5) → let b = else1 (c .before) in record { args : typeOf (b .args); pre : typeOf (b .pre); if1 : typeOf (b .if1) }
+at-match-keys5 c = let b = else1 (c .before) in record { args = b .args; pre = b .pre; if1 = b .if1 }
 
-abbrev pub after-enum-told4 : (c : tie.After-enum-told4) → let b = at-match-keys5 (c .before) in record { args : typeOf (b .args); if1 : typeOf (b .if1); enum-told4 : typeOf (c .enum-told4) }
-after-enum-told4 c = let b = at-match-keys5 (c .before) in record { args = b .args; if1 = b .if1; enum-told4 = c .enum-told4 }
+abbrev pub after-decision2 : (c : tie.After-decision2) → let b = at-match-keys5 (c .before) in record { args : typeOf (b .args); pre : typeOf (b .pre); if1 : typeOf (b .if1); decision2 : typeOf (c .decision2) }
+after-decision2 c = let b = at-match-keys5 (c .before) in record { args = b .args; pre = b .pre; if1 = b .if1; decision2 = c .decision2 }
+
+abbrev pub after-runner : (c : tie.After-runner) → let b = after-decision2 (c .before .before) in record { args : typeOf (b .args); if1 : typeOf (b .if1); decision2 : typeOf (b .decision2); runner : typeOf (c .runner) }
+after-runner c = let b = after-decision2 (c .before .before) in record { args = b .args; if1 = b .if1; decision2 = b .decision2; runner = c .runner }
 
 abbrev pub at-match-keys6 : (c : tie.At-match-keys6) → let b = else1 (c .before) in record { args : typeOf (b .args); if1 : typeOf (b .if1) }
 at-match-keys6 c = let b = else1 (c .before) in record { args = b .args; if1 = b .if1 }
 
-abbrev pub after-enum-told5 : (c : tie.After-enum-told5) → let b = at-match-keys6 (c .before) in record { args : typeOf (b .args); if1 : typeOf (b .if1); enum-told5 : typeOf (c .enum-told5) }
-after-enum-told5 c = let b = at-match-keys6 (c .before) in record { args = b .args; if1 = b .if1; enum-told5 = c .enum-told5 }
+abbrev pub after-decision3 : (c : tie.After-decision3) → let b = at-match-keys6 (c .before) in record { args : typeOf (b .args); if1 : typeOf (b .if1); decision3 : typeOf (c .decision3) }
+after-decision3 c = let b = at-match-keys6 (c .before) in record { args = b .args; if1 = b .if1; decision3 = c .decision3 }
 
 abbrev pub returns : (c : tie.Then1) → typeOf (then1 c)
 returns c = then1 c
 
 abbrev pub standing-requires : (c : tie.After-known-told) → typeOf (after-decision (c .before))
 standing-requires c = after-decision (c .before)
+
+abbrev pub runner-requires : (c : tie.After-known-told2) → typeOf (after-decision2 (c .before))
+runner-requires c = after-decision2 (c .before)
 
 abbrev pub returns-2 : (c : tie.After-standing) → typeOf (after-standing c)
 returns-2 c = after-standing c
@@ -72,14 +78,14 @@ returns-4 c = after-enum-told2 c
 abbrev pub returns-5 : (c : tie.After-enum-told3) → typeOf (after-enum-told3 c)
 returns-5 c = after-enum-told3 c
 
-abbrev pub returns-6 : (c : tie.After-enum-told4) → typeOf (after-enum-told4 c)
-returns-6 c = after-enum-told4 c
+abbrev pub returns-6 : (c : tie.After-runner) → typeOf (after-runner c)
+returns-6 c = after-runner c
 
-abbrev pub returns-7 : (c : tie.After-enum-told5) → typeOf (after-enum-told5 c)
-returns-7 c = after-enum-told5 c
+abbrev pub returns-7 : (c : tie.After-known-told3) → typeOf (after-decision3 (c .before))
+returns-7 c = after-decision3 (c .before)
 
-pub close : {M : Type 1} → tie.Need-returns → tie.Need-enum-known-decision → tie.Need-standing-requires → tie.Need-enum-told → tie.Need-enum-told-2 → tie.Need-enum-told-3 → tie.Need-enum-told-4 → tie.Need-enum-told-5 → tie.Need-returns-2 → tie.Need-returns-3 → tie.Need-returns-4 → tie.Need-returns-5 → tie.Need-returns-6 → tie.Need-returns-7 → statement M
-close a0 a1 a2 a3 a4 a5 a6 a7 a8 a9 a10 a11 a12 a13 =
+pub close : {M : Type 1} → tie.Need-returns → tie.Need-enum-known-decision → tie.Need-standing-requires → tie.Need-enum-told → tie.Need-enum-told-2 → tie.Need-enum-told-3 → tie.Need-enum-known-decision-2 → tie.Need-runner-requires → tie.Need-enum-known-decision-3 → tie.Need-returns-2 → tie.Need-returns-3 → tie.Need-returns-4 → tie.Need-returns-5 → tie.Need-returns-6 → tie.Need-returns-7 → statement M
+close a0 a1 a2 a3 a4 a5 a6 a7 a8 a9 a10 a11 a12 a13 a14 =
     tie.close
     (tie.spec
     a0
@@ -95,4 +101,5 @@ close a0 a1 a2 a3 a4 a5 a6 a7 a8 a9 a10 a11 a12 a13 =
     a10
     a11
     a12
-    a13)
+    a13
+    a14)
