@@ -183,6 +183,17 @@ pub record Under (m : Machine) (qs cs ks flat ns fs : List ℕ) (r : Record) (c 
 pub under-start : {m : Machine} {qs cs ks flat ns fs : List ℕ} {r : Record} {c up : ℕ} → Emptying m qs cs ks flat ns fs r c up → Under m qs cs ks flat ns fs r c up
 under-start {m} {c = c} {up = up} l = record { reached = m; way = way-start up c m (l .leaving); empties = l }
 
+-- the first has left, and then some
+pub under-first : {m : Machine} {qs cs ks flat ns fs : List ℕ} {r : Record} {c up : ℕ} (l : Emptying m qs cs ks flat ns fs r c up) (some : 0 < getD ns c 0)
+    {cs′ flat′ ns′ : List ℕ} {r′ : Record} → Under (oneLess up c m (getD flat (c * taskPlaces) 0)) qs cs′ ks flat′ ns′ fs r′ c up
+    → Under m qs cs′ ks flat′ ns′ fs r′ c up
+under-first {m} {flat = flat} {c = c} {up = up} l some g =
+    record {
+      reached = g .reached;
+      way = way-on up c m (oneLess up c m (getD flat (c * taskPlaces) 0)) (g .reached) (one-way l some) (g .way);
+      empties = g .empties;
+    }
+
 module _ {m : Machine} {qs cs ks flat ns fs : List ℕ} {r : Record} {c up : ℕ} (g : Under m qs cs ks flat ns fs r c up) where
   pub under-on : (some : 0 < getD ns c 0) {cs′ flat′ ns′ : List ℕ} {r′ : Record}
       → Emptying (oneLess up c (g .reached) (getD flat (c * taskPlaces) 0)) qs cs′ ks flat′ ns′ fs r′ c up → Under m qs cs′ ks flat′ ns′ fs r′ c up

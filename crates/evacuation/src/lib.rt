@@ -96,7 +96,8 @@ pub fn bring_online(
     );
 }
 
-// The tasks of the CPU leave it, one after the other, for the CPUs of `up`.
+// The tasks of the CPU leave it, one after the other, for the CPUs of `up`: the one that ran, then those that waited. (A function
+// that is called twice keeps its code apart from that of all other kinds.)
 fn evacuate(
     prio: &[u8],
     cpus: &mut [u8],
@@ -118,6 +119,23 @@ fn evacuate(
         ⌜ ((m : Machine) → Emptying m (old prio) (old cpus) (old mask) (old rows) (old counts) (old flags) r cpu up
         → Emptied m (old prio) (new cpus) (old mask) (new rows) (new counts) (old flags) q cpu up) ⌝ }
 {
+    if counts[cpu] == 0 {
+        return;
+    }
+    leave_first(
+        prio,
+        cpus,
+        mask,
+        rows,
+        counts,
+        flags,
+        masks,
+        tallies,
+        words,
+        levels,
+        cpu,
+        up,
+    );
     while counts[cpu] != 0 {
         leave_first(
             prio,

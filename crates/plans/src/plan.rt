@@ -15,15 +15,16 @@ pub struct Task {
 }
 
 // A task leaves a row or not, its columns are written, and it enters a row or not, in front of its
-// equals or behind them. Entering sets its CPU besides.
+// equals or behind them. Entering sets its CPU besides. (Numbers first: where a decision about a CPU lies in the same places, a
+// plan is not packed into words and unpacked again.)
 pub struct Plan {
+    pub origin: usize,
+    pub becomes: Task,
+    pub target: usize,
     pub task: u16,
     pub leaves: bool,
     pub enters: bool,
-    pub origin: usize,
-    pub becomes: Task,
     pub front: bool,
-    pub target: usize,
 }
 
 pub enum Decision {
