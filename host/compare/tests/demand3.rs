@@ -4,13 +4,7 @@
 use binding::{Event, Tables};
 use compare::demand3::{check, Before};
 
-const WAKE_3: Event = Event {
-    kind: 3,
-    who: 3,
-    a: 0,
-    b: 0,
-    mask: 0,
-};
+const WAKE_3: Event = Event::new(3, 3, 0, 0, 0);
 
 /// K5 up to the wake of task 3, what was before it, and the tables after: the log is (0,0,1,22), (1,1,2,12).
 fn k5() -> (Before, Tables) {
@@ -151,13 +145,7 @@ fn a_task_in_no_row_or_in_two() {
     assert!(says(2, |t| t.state[2] = 1).contains("task 2 stands 1 times"));
 }
 
-const OFFLINE_0: Event = Event {
-    kind: 10,
-    who: 0,
-    a: 0,
-    b: 0,
-    mask: 0,
-};
+const OFFLINE_0: Event = Event::new(10, 0, 0, 0, 0);
 
 /// Three CPUs, tasks 0 (50, mask 3) and 1 (40, mask 6), and CPU 0 goes offline: task 0 leaves for CPU 1, and the log is
 /// (1,1,2,0).
