@@ -1,5 +1,5 @@
--- Document 01, "Placing real-time tasks on N CPUs", as definitions, with L2, L3, L7 and L8 of document 02. They are what must be believed. Read the files in the order below; comments
--- have the paper's words.
+-- Document 01, "Placing real-time tasks on N CPUs", as definitions, with L2, L3, L7 and L8 of document 02. They are what must be believed. Read
+-- the files in the order below; comments have the papers' words.
 --
 -- The notation
 --   f : A → B → C           the type of f; what f is stands in the lines under it, by cases where they differ

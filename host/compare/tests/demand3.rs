@@ -147,18 +147,27 @@ fn a_task_in_no_row_or_in_two() {
 
 const OFFLINE_0: Event = Event::new(10, 0, 0, 0, 0);
 
+/// A fresh machine after these events, each of which must be accepted.
+fn after(cpus: usize, events: impl IntoIterator<Item = Event>) -> Tables {
+    let mut t = Tables::fresh(cpus).expect("1 to 64 CPUs");
+    for e in events {
+        assert_eq!(t.event(e).answer, 0);
+    }
+    t
+}
+
 /// Three CPUs, tasks 0 (50, mask 3) and 1 (40, mask 6), and CPU 0 goes offline: task 0 leaves for CPU 1, and the log is
 /// (1,1,2,0).
 fn offline() -> (Before, Tables) {
-    let mut t = Tables::fresh(3).expect("3 CPUs");
-    for e in [
-        Event::new(1, 0, 1, 50, 3),
-        Event::new(1, 1, 1, 40, 6),
-        Event::new(3, 0, 0, 0, 0),
-        Event::new(3, 1, 0, 0, 0),
-    ] {
-        assert_eq!(t.event(e).answer, 0);
-    }
+    let mut t = after(
+        3,
+        [
+            Event::new(1, 0, 1, 50, 3),
+            Event::new(1, 1, 1, 40, 6),
+            Event::new(3, 0, 0, 0, 0),
+            Event::new(3, 1, 0, 0, 0),
+        ],
+    );
     let before = Before::of(&t);
     assert_eq!(t.event(OFFLINE_0).moves, 1);
     assert_eq!(check(&before, OFFLINE_0, 1, &t), Ok(()));
@@ -186,15 +195,15 @@ fn a_cpu_that_goes_offline() {
 /// A task waits, and outranks what ran on CPU 1 alone: that is offline. Back, the task goes there.
 #[test]
 fn an_offline_cpu_is_not_outranked() {
-    let mut t = Tables::fresh(2).expect("2 CPUs");
-    for e in [
-        Event::new(10, 1, 0, 0, 0),
-        Event::new(1, 0, 1, 50, 1),
-        Event::new(1, 1, 1, 40, 3),
-        Event::new(3, 0, 0, 0, 0),
-    ] {
-        assert_eq!(t.event(e).answer, 0);
-    }
+    let mut t = after(
+        2,
+        [
+            Event::new(10, 1, 0, 0, 0),
+            Event::new(1, 0, 1, 50, 1),
+            Event::new(1, 1, 1, 40, 3),
+            Event::new(3, 0, 0, 0, 0),
+        ],
+    );
     let before = Before::of(&t);
     let wake = Event::new(3, 1, 0, 0, 0);
     assert_eq!(t.event(wake).moves, 0);
