@@ -73,7 +73,7 @@ lengths-shape n s h =
       eqb-true (length (s .log)) logPlaces (a .1),
     )
 
-shape-lengths : (n : ℕ) (s : Tables) → Shape (machineOf n s) → length (s .rows) ≡ taskPlaces * n → length (s .counts) ≡ n → length (s .log) ≡ logPlaces
+pub shape-lengths : (n : ℕ) (s : Tables) → Shape (machineOf n s) → length (s .rows) ≡ taskPlaces * n → length (s .counts) ≡ n → length (s .log) ≡ logPlaces
     → lengthsFit n s ≡ true
 shape-lengths n s p rows counts log =
     and-both _ _ (and-both _ _ (and-both _ _ (and-both _ _ (and-both _ _ (and-both _ _ (and-both _ _ (and-both _ _ (and-both _ _ (and-both _ _ (and-both _ _

@@ -16,6 +16,7 @@ pub mod Demand3
 pub mod Limited
 pub mod Touched
 pub mod Hotplug
+pub mod DownToOne
 pub mod Room
 pub mod Test
 pub mod Tables

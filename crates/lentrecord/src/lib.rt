@@ -16,7 +16,7 @@ use cpupri::record::LEVELS;
 use cpupri::record::Record;
 use cpupri::record::WORDS;
 
-mod copy;
+pub mod copy;
 
 // Whether the four tables have the record's lengths.
 pub fn lengths_fit(masks: usize, counts: usize, words: usize, levels: usize) -> bool

@@ -115,6 +115,7 @@ ordinaryOffline =
 abbrev pub everyCpu : ℕ
 everyCpu = 2 ^ 64 - 1
 
+-- run in crate laws, where no edit of the definitions runs it again
 abbrev pub downToOne : List Case
 downToOne =
     case 64 (add 0 50 everyCpu ∷ wake 0 ∷ map offline (below 62)) (offline 62)
@@ -124,4 +125,4 @@ downToOne =
 abbrev pub hotplug : List Case
 hotplug =
     goingAndComing ++ frontToBack ++ eachItsOwn ++ thenMigrations ++ back ++ placing ++ moving ++ addingOffline ++ nowhereToGo ++ nowhereElse
-    ++ alreadySo ++ lastOne ++ ordinaryOffline ++ downToOne
+    ++ alreadySo ++ lastOne ++ ordinaryOffline

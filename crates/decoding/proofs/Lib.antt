@@ -1,0 +1,5 @@
+pub mod Numbers
+pub mod Layouts
+pub mod Items
+pub mod Firsts
+pub mod Filling
