@@ -3,7 +3,7 @@
  * Qoriwesh: where SCHED_FIFO and SCHED_RR tasks run on 1 to 64 CPUs.
  *
  * The functions are proved: what each answers and what it leaves in every
- * table is stated in crates/abi, for all tables and all numbers.
+ * table is stated in crates/abi and crates/replay, for all tables and all numbers.
  *
  * Nothing is allocated, locked or kept between calls. A caller lends the
  * tables; one call at a time may use them. Each pointer must be valid for its
@@ -69,6 +69,17 @@ extern "C" {
 #define QORIWESH_ORDINARY 9 /* CPU who has ordinary work (b 1) or none (b 0) */
 #define QORIWESH_OFFLINE 10 /* CPU who goes offline: each of its tasks goes to its lowest-numbered online CPU */
 #define QORIWESH_ONLINE 11  /* CPU who is online again */
+
+/* ---- recordings ---- */
+
+#define QORIWESH_RECORDS 65536      /* records of a recording, at most, the first included */
+#define QORIWESH_FIRST 0            /* the first record's kind: N, and a full slice of 100 ticks */
+#define QORIWESH_FIRST_SLICE 12     /* the same with the full slice named: N, slice */
+#define QORIWESH_RECORDED_SLICE 100 /* the full slice where the first record names none */
+
+#define QORIWESH_WHOLE 0   /* the recording ends behind a record */
+#define QORIWESH_CUT 1     /* it ends within a record, or before its first one is whole */
+#define QORIWESH_STOPPED 2 /* a record stops the replay: an unknown kind, a bad first record, one record too many */
 
 /* ---- values in the tables ---- */
 
@@ -238,6 +249,58 @@ uint8_t qoriwesh_find(
 	uint32_t level, uint64_t mask,
 	uint8_t *found_level, uint64_t *found_mask);
 
+/*
+ * Replays a recording on a fresh machine, in tables for 64 CPUs: rows 64*512
+ * numbers, counts and flags 64. It is in an archive of its own, libreplay.a.
+ *
+ * A record is a byte of kind and a body whose length the kind fixes; numbers are
+ * low byte first. First one of
+ *
+ *   kind  0   N (1)                    kind 12   N (1), full slice (2)
+ *
+ * then events, each with the stamp of its time in microseconds (4):
+ *
+ *   kind  1   stamp, task (2), policy (1), priority (1), mask (8)
+ *   kinds 2, 3, 4   stamp, task (2)
+ *   kind  5   stamp, task (2), priority (1)
+ *   kind  6   stamp, task (2), mask (8)
+ *   kinds 7, 8, 10, 11   stamp, CPU (1)
+ *   kind  9   stamp, CPU (1), ordinary work (1)
+ *
+ * 0: *ending is QORIWESH_WHOLE, QORIWESH_CUT or QORIWESH_STOPPED, and *place the
+ * byte where the whole records before it end; what they give is what is reported.
+ * *n and *full_slice are those of the first record; times[c] is how long CPU c had
+ * a real-time task, in microseconds, from the first event's stamp to the last
+ * one's; *moves counts the migrations and *refused the refused events, which are
+ * skipped. The tables are those of the machine of *n CPUs after the last event;
+ * rows, counts and flags beyond *n are as they were. Stamps run past their end to
+ * zero: the time between two records is their difference modulo 2^32.
+ *
+ * Without a good first record *n is 0, and so are all numbers reported but *ending;
+ * every table is as it was. QORIWESH_ESIZE, if a table, also times, has another
+ * length: the same, with QORIWESH_STOPPED; no byte was read.
+ */
+uint8_t qoriwesh_replay(
+	const uint8_t *bytes, size_t bytes_len,
+	uint8_t *state, size_t state_len,
+	uint8_t *policy, size_t policy_len,
+	uint8_t *prio, size_t prio_len,
+	uint8_t *cpu, size_t cpu_len,
+	uint16_t *slice, size_t slice_len,
+	uint64_t *mask, size_t mask_len,
+	uint16_t *rows, size_t rows_len,
+	uint16_t *counts, size_t counts_len,
+	uint8_t *flags, size_t flags_len,
+	uint64_t *online,
+	uint16_t *log, size_t log_len,
+	uint64_t *level_masks, size_t level_masks_len,
+	uint8_t *level_counts, size_t level_counts_len,
+	uint64_t *level_words, size_t level_words_len,
+	uint8_t *levels, size_t levels_len,
+	uint64_t *times, size_t times_len,
+	uint8_t *ending, size_t *place, size_t *n, uint32_t *full_slice,
+	uint64_t *moves, uint32_t *refused);
+
 /* ---- the same over one struct, for a caller that has no tables of its own ---- */
 
 struct qoriwesh_machine {
@@ -335,6 +398,35 @@ static inline int qoriwesh_machine_find(const struct qoriwesh_machine *m,
 			      m->level_words, QORIWESH_WORDS,
 			      m->levels, QORIWESH_CPUS,
 			      level, mask, found_level, found_mask);
+}
+
+/* What a replay reports. */
+struct qoriwesh_report {
+	uint8_t ending; /* QORIWESH_WHOLE, QORIWESH_CUT or QORIWESH_STOPPED */
+	size_t place;   /* the byte where the whole records end */
+	size_t cpus;    /* 0 without a good first record */
+	uint32_t full_slice;
+	uint64_t times[QORIWESH_CPUS]; /* microseconds with a real-time task */
+	uint64_t moves;
+	uint32_t refused;
+};
+
+/*
+ * Replays a recording; the machine is then the one after its last event, or, without
+ * a good first record, as it was. 0: a machine's tables have their lengths.
+ */
+static inline int qoriwesh_machine_replay(struct qoriwesh_machine *m, const uint8_t *bytes, size_t len,
+					  struct qoriwesh_report *r)
+{
+	uint8_t answer = qoriwesh_replay(bytes, len, QORIWESH_LEND_TABLES(m, QORIWESH_CPUS),
+					 r->times, QORIWESH_CPUS, &r->ending, &r->place, &r->cpus,
+					 &r->full_slice, &r->moves, &r->refused);
+
+	if (r->cpus) {
+		m->cpus = r->cpus;
+		m->full_slice = r->full_slice;
+	}
+	return -answer;
 }
 
 #ifdef __cplusplus

@@ -55,26 +55,31 @@ impl Side for ByHand {
     }
 
     fn tables(&self) -> Tables {
-        let (t, r) = (self.tables.clone(), &self.record);
-        Tables {
-            n: t.n,
-            full_slice: t.full_slice,
-            state: t.state,
-            policy: t.policy,
-            prio: t.prio,
-            cpu: t.cpu,
-            slice: t.slice,
-            mask: t.mask,
-            rows: t.rows.concat(),
-            counts: t.counts,
-            flags: t.flags,
-            online: t.online,
-            log: t.log.concat(),
-            level_masks: r.masks.to_vec(),
-            level_counts: r.counts.to_vec(),
-            level_words: r.words.to_vec(),
-            levels: r.levels.to_vec(),
-        }
+        joined(&self.tables, &self.record)
+    }
+}
+
+/// The tables and the record as the library's.
+pub fn joined(t: &plain::Tables, r: &Record) -> Tables {
+    let t = t.clone();
+    Tables {
+        n: t.n,
+        full_slice: t.full_slice,
+        state: t.state,
+        policy: t.policy,
+        prio: t.prio,
+        cpu: t.cpu,
+        slice: t.slice,
+        mask: t.mask,
+        rows: t.rows.concat(),
+        counts: t.counts,
+        flags: t.flags,
+        online: t.online,
+        log: t.log.concat(),
+        level_masks: r.masks.to_vec(),
+        level_counts: r.counts.to_vec(),
+        level_words: r.words.to_vec(),
+        levels: r.levels.to_vec(),
     }
 }
 
@@ -88,7 +93,7 @@ fn event(e: &Event) -> plain::Event {
     }
 }
 
-fn record(t: &Tables) -> Record {
+pub fn record(t: &Tables) -> Record {
     let right = "a record's lengths";
     Record {
         masks: t.level_masks[..].try_into().expect(right),
@@ -98,7 +103,7 @@ fn record(t: &Tables) -> Record {
     }
 }
 
-fn tables(t: &Tables) -> plain::Tables {
+pub fn tables(t: &Tables) -> plain::Tables {
     let t = t.clone();
     let row = |places: &[u16]| places.try_into().expect("a whole row");
     let entry = |numbers: &[u16]| numbers.try_into().expect("a whole entry");

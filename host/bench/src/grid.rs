@@ -82,6 +82,9 @@ fn bytes(n: usize) -> usize {
 }
 
 pub fn check(run: &mut Run) {
+    if !run.effort.wants(has) {
+        return;
+    }
     say("Check of all tables, ns a call\n");
     let points = measure(run, "check", three, |_| Work::Check(4));
     let head = [
@@ -108,6 +111,9 @@ pub fn check(run: &mut Run) {
 }
 
 pub fn event(run: &mut Run) {
+    if !run.effort.wants(has) {
+        return;
+    }
     say("Event with its check of all tables, a mix of events, ns an event\n");
     let points = measure(run, "event", three, |scene| {
         Work::Events(scene.events.clone())
@@ -138,6 +144,9 @@ fn against_second(p: &Point) -> Vec<String> {
 }
 
 pub fn inner(run: &mut Run) {
+    if !run.effort.wants(has) {
+        return;
+    }
     say("Inner event (tables not checked), the same mix, ns an event\n");
     let points = measure(run, "inner", two, |scene| Work::Inner(scene.events.clone()));
     let head = ["N", "tasks", "waiting", "library", "plain", "library/plain"];

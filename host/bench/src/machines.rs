@@ -3,14 +3,14 @@
 use crate::rng::Rng;
 use binding::{Event, Tables, TASKS};
 
-const ADD: u32 = 1;
-const WAKE: u32 = 3;
-const SLEEP: u32 = 4;
-const PRIORITY: u32 = 5;
+pub const ADD: u32 = 1;
+pub const WAKE: u32 = 3;
+pub const SLEEP: u32 = 4;
+pub const PRIORITY: u32 = 5;
 pub const AFFINITY: u32 = 6;
-const TICK: u32 = 7;
-const YIELD: u32 = 8;
-const ORDINARY: u32 = 9;
+pub const TICK: u32 = 7;
+pub const YIELD: u32 = 8;
+pub const ORDINARY: u32 = 9;
 pub const OFFLINE: u32 = 10;
 pub const ONLINE: u32 = 11;
 
@@ -73,7 +73,7 @@ fn add(t: &mut Tables, who: usize, policy: u32, prio: usize, mask: u64) {
 }
 
 /// Any CPU, some CPUs, one CPU or two.
-fn some_mask(rng: &mut Rng, n: usize) -> u64 {
+pub fn some_mask(rng: &mut Rng, n: usize) -> u64 {
     let one = |rng: &mut Rng| 1u64 << rng.below(n);
     match rng.below(10) {
         0..=3 => full(n),

@@ -7,7 +7,9 @@ mod hotplug;
 mod keep;
 mod leaving;
 mod machines;
+mod night;
 mod ours;
+mod replays;
 mod rng;
 mod say;
 mod second;
@@ -40,10 +42,11 @@ Sections, all if none is named:
   worst   inner events that cost the most
   hotplug inner events that take a CPU offline or bring it back
   find    the finder
+  replay  recordings of 65,535 events
 
   --quick         a few seconds, and less exact
   --once          each row once, for a tool that counts instructions
-  --only N,TASKS  of check, event and inner the one row
+  --only N,TASKS  of check, event, inner and replay the one row
   --case TEXT     of hotplug the rows whose names begin so
   --keep FILE     show the shortest times of this run and of all earlier ones with
                   this file, and the ratios that single runs had. Each should be
@@ -53,13 +56,14 @@ Sections, all if none is named:
 
 type Section = (&'static str, fn(&mut Run));
 
-const SECTIONS: [Section; 6] = [
+const SECTIONS: [Section; 7] = [
     ("check", grid::check),
     ("event", grid::event),
     ("inner", grid::inner),
     ("worst", worst::worst),
     ("hotplug", hotplug::hotplug),
     ("find", finder::find),
+    ("replay", replays::replay),
 ];
 
 /// What the command line asks for.
@@ -112,7 +116,7 @@ fn size(word: Option<String>) -> Result<(usize, usize), String> {
     let word = word.unwrap_or_default();
     word.split_once(',')
         .and_then(|(n, tasks)| Some((n.parse().ok()?, tasks.parse().ok()?)))
-        .filter(|size| grid::has(*size))
+        .filter(|size| grid::has(*size) || replays::has(*size))
         .ok_or_else(|| format!("--only: no row '{word}'"))
 }
 

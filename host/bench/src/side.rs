@@ -18,9 +18,16 @@ pub enum Work {
 /// How many events are timed at once: few enough that some rounds are left in peace.
 const PART: usize = 64;
 
-impl Work {
+/// What can be timed.
+pub trait Timed: Sized {
     /// Parts that are timed one by one.
-    pub fn parts(&self) -> Vec<Work> {
+    fn parts(&self) -> Vec<Self>;
+    /// How many calls the time is for.
+    fn calls(&self) -> usize;
+}
+
+impl Timed for Work {
+    fn parts(&self) -> Vec<Work> {
         match self {
             Work::Events(events) => events
                 .chunks(PART)
@@ -31,8 +38,7 @@ impl Work {
         }
     }
 
-    /// How many calls the time is for.
-    pub fn calls(&self) -> usize {
+    fn calls(&self) -> usize {
         match self {
             Work::Check(times) | Work::Find { times, .. } => *times,
             Work::Events(events) | Work::Inner(events) => events.len(),
@@ -40,11 +46,11 @@ impl Work {
     }
 }
 
-pub trait Side {
+pub trait Side<W = Work> {
     /// Goes back to the tables that it started with. Not timed.
     fn restart(&mut self);
     /// Does the work. The number is made of all answers, so that none can be left out.
-    fn run(&mut self, work: &Work) -> u64;
+    fn run(&mut self, work: &W) -> u64;
     /// The tables as the work left them.
     fn tables(&self) -> Tables;
 }

@@ -2,7 +2,7 @@
 //! them. The shortest time counts.
 
 use crate::keep::{Keep, Row};
-use crate::side::{Side, Work};
+use crate::side::{Side, Timed};
 use std::time::{Duration, Instant};
 
 /// How long one row of a table may be measured, and which machines are.
@@ -30,6 +30,11 @@ impl Effort {
         most_rounds: 1,
         only: None,
     };
+
+    /// Whether any of a section's machines is measured.
+    pub fn wants(&self, has: fn((usize, usize)) -> bool) -> bool {
+        self.only.is_none_or(has)
+    }
 }
 
 /// A run of the benchmark.
@@ -42,7 +47,7 @@ pub struct Run {
 
 impl Run {
     /// Times one row. The key names it among all rows.
-    pub fn row(&mut self, key: String, sides: &mut [Box<dyn Side>], work: &Work) -> Row {
+    pub fn row<W: Timed>(&mut self, key: String, sides: &mut [Box<dyn Side<W>>], work: &W) -> Row {
         let times = time(sides, work, self.effort);
         self.keep.row(key, Row::new(times))
     }
@@ -62,7 +67,7 @@ struct Watch {
 ///
 /// # Panics
 /// If two sides differ in their answers or in the tables that they leave.
-fn time(sides: &mut [Box<dyn Side>], work: &Work, effort: Effort) -> Vec<f64> {
+fn time<W: Timed>(sides: &mut [Box<dyn Side<W>>], work: &W, effort: Effort) -> Vec<f64> {
     same(sides, work);
     let parts = work.parts();
     let fresh = || Watch {
@@ -85,7 +90,7 @@ fn time(sides: &mut [Box<dyn Side>], work: &Work, effort: Effort) -> Vec<f64> {
 }
 
 impl Watch {
-    fn round(&mut self, side: &mut dyn Side, parts: &[Work]) {
+    fn round<W>(&mut self, side: &mut dyn Side<W>, parts: &[W]) {
         side.restart();
         for (part, best) in parts.iter().zip(&mut self.best) {
             let from = Instant::now();
@@ -98,7 +103,7 @@ impl Watch {
 }
 
 /// Runs the work once on each side and compares.
-fn same(sides: &mut [Box<dyn Side>], work: &Work) {
+fn same<W>(sides: &mut [Box<dyn Side<W>>], work: &W) {
     let ends: Vec<_> = sides
         .iter_mut()
         .map(|side| {

@@ -43,6 +43,20 @@ impl Origin {
             difference,
         }
     }
+
+    /// The words that give a case again.
+    pub fn again(self) -> String {
+        let Origin { mode, from, mutant } = self;
+        let mutant = match mutant {
+            Mutant::None => String::new(),
+            mutant => format!(" --mutant {mutant:?}"),
+        };
+        let case = match from {
+            Some((seed, case)) => format!(" --seed {seed} --case {case}"),
+            None => String::new(),
+        };
+        format!("again: compare{case}{mutant} {mode}")
+    }
 }
 
 impl Case {
@@ -167,7 +181,7 @@ impl Failure {
 
 impl fmt::Display for Failure {
     fn fmt(&self, f: &mut fmt::Formatter) -> fmt::Result {
-        let Origin { mode, from, mutant } = self.origin;
+        let mode = self.origin.mode;
         writeln!(f, "DIFFERENCE in mode {mode}: {}", self.difference)?;
         write!(f, "{}", self.case.plan)?;
         for damage in &self.case.damage {
@@ -176,14 +190,6 @@ impl fmt::Display for Failure {
         for call in &self.case.calls {
             writeln!(f, "  {call}")?;
         }
-        let mutant = match mutant {
-            Mutant::None => String::new(),
-            mutant => format!(" --mutant {mutant:?}"),
-        };
-        let case = match from {
-            Some((seed, case)) => format!(" --seed {seed} --case {case}"),
-            None => String::new(),
-        };
-        write!(f, "  again: compare{case}{mutant} {mode}")
+        write!(f, "  {}", self.origin.again())
     }
 }

@@ -18,10 +18,18 @@ pub enum Difference {
     },
     /// Our own result breaks a part of demand 3.
     Demand3(String),
-    /// The machine with which an accepted event ended is refused by our checker.
+    /// The machine with which an accepted event or a replay ended is refused by our checker.
     IllFormed(u8),
     /// The event without its check differs, told that the machine is settled or not.
     Inner(bool, Box<Difference>),
+    /// What a replay reports differs: ours, the reference's.
+    Report(Box<[replay::Answer; 2]>),
+    /// A place of a replay's times differs.
+    Time {
+        index: usize,
+        ours: u64,
+        theirs: u64,
+    },
 }
 
 impl fmt::Display for Difference {
@@ -50,11 +58,20 @@ impl fmt::Display for Difference {
             }
             Difference::Demand3(part) => write!(f, "demand 3: {part}"),
             Difference::IllFormed(number) => {
-                write!(f, "the checker answers {number} after an accepted event")
+                write!(f, "the checker answers {number} on the machine left")
             }
             Difference::Inner(settled, difference) => {
                 write!(f, "inner event, settled = {settled}: {difference}")
             }
+            Difference::Report(both) => {
+                let [ours, theirs] = &**both;
+                write!(f, "reports differ\n  ours   {ours:?}\n  theirs {theirs:?}")
+            }
+            Difference::Time {
+                index,
+                ours,
+                theirs,
+            } => write!(f, "times[{index}] differs: ours {ours}, theirs {theirs}"),
         }
     }
 }

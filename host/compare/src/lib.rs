@@ -15,6 +15,7 @@ pub mod mutants;
 pub mod pair;
 pub mod plan;
 pub mod random;
+pub mod recordings;
 pub mod rng;
 pub mod sweep;
 pub mod tables;

@@ -7,8 +7,9 @@ use compare::case::Failure;
 use compare::counters::Counters;
 use compare::universe::Size;
 use compare::vectors::Side;
-use compare::{damaged, exhaustive, mutants, random, sweep, vectors};
+use compare::{damaged, exhaustive, mutants, random, recordings, sweep, vectors};
 use options::{parse, Options, HELP};
+use std::fmt::Display;
 use std::process::ExitCode;
 use std::time::Instant;
 
@@ -16,18 +17,24 @@ use std::time::Instant;
 /// offline, ticks that refill with each of some full slices, and the inner event must have come up in all modes together.
 const LEAST: u64 = 1000;
 
-/// Calls of mode random in a quick run.
+/// The same of each kind of event and each refusal of one in recordings.
+const LEAST_RECORDED: u64 = 300;
+
+/// Calls of mode random in a quick run, and random recordings of mode replay.
 const QUICK: u64 = 100_000;
+const QUICK_RECORDINGS: u64 = 500;
 
 /// Prints the failure, cut down.
 fn report(failure: Option<Failure>) -> bool {
-    match failure {
-        None => true,
-        Some(failure) => {
-            println!("{}", failure.cut_down());
-            false
-        }
+    agreed(failure.map(Failure::cut_down))
+}
+
+/// Prints what differs, if anything does.
+fn agreed(failure: Option<impl Display>) -> bool {
+    if let Some(failure) = &failure {
+        println!("{failure}");
     }
+    failure.is_none()
 }
 
 fn run_vectors(options: &Options) -> bool {
@@ -42,7 +49,7 @@ fn run_vectors(options: &Options) -> bool {
         }
     }
     println!(
-        "vectors: K1 to K12 and the cases of requests L3, L7 and L8 on the library and on the reference"
+        "vectors: K1 to K12 and the cases of requests L1, L3, L7 and L8 on the library and on the reference"
     );
     good
 }
@@ -116,6 +123,31 @@ fn run_exhaustive(options: &Options, counters: &mut Counters) -> bool {
     report(finder(m, counters))
 }
 
+/// The sweep, the longest recordings, and random ones.
+fn run_replay(options: &Options, counters: &mut recordings::counters::Counters) -> bool {
+    let (seed, m) = (options.seed, options.mutant);
+    let (events, step, longest, many) = match options.quick {
+        true => (100, 8 * options.step, 4, QUICK_RECORDINGS),
+        false => (400, options.step, recordings::limits::ALL, 20_000),
+    };
+    let extent = recordings::sweep::Extent {
+        events,
+        cut_step: options.step,
+        step,
+    };
+    let many = options.recordings.unwrap_or(many);
+    let failure = match options.case {
+        Some(case) => recordings::run_case(seed, case, m, counters),
+        None => recordings::sweep::run(extent, m, counters)
+            .or_else(|| match options.step {
+                1 => recordings::limits::run(longest, m, counters),
+                _ => None,
+            })
+            .or_else(|| recordings::run(seed, many, m, counters)),
+    };
+    agreed(failure.map(recordings::case::Failure::cut_down))
+}
+
 fn first_call(failure: &Option<Failure>) -> String {
     match failure {
         None => String::from("-"),
@@ -131,36 +163,70 @@ fn first_call(failure: &Option<Failure>) -> String {
     }
 }
 
-fn run_mutants(options: &Options) -> bool {
-    let calls = if options.quick { 10_000 } else { 30_000 };
-    let hunts = mutants::hunt_all(options.seed, calls);
-    for hunt in &hunts {
-        let examples: Vec<&str> = hunt
-            .examples
-            .iter()
-            .filter_map(|s| s.split(' ').next())
-            .collect();
-        println!(
-            "  {} {:?}: random {}, damaged {}{}, examples {} | {}",
-            if hunt.found() { "found" } else { "SURVIVES" },
-            hunt.mutant,
-            first_call(&hunt.random),
-            first_call(&hunt.damaged),
-            match &hunt.sweep {
-                None => String::new(),
-                some => format!(", sweep {}", first_call(some)),
-            },
-            if examples.is_empty() {
-                String::from("-")
-            } else {
-                examples.join(" ")
-            },
-            hunt.mutant.says()
-        );
+/// The names of the examples, which stand before what is said of them.
+fn names(examples: &[String]) -> String {
+    let names: Vec<&str> = examples
+        .iter()
+        .filter_map(|s| s.split(' ').next())
+        .collect();
+    match names.is_empty() {
+        true => String::from("-"),
+        false => names.join(" "),
     }
+}
+
+fn found_word(found: bool) -> &'static str {
+    if found {
+        "found"
+    } else {
+        "SURVIVES"
+    }
+}
+
+fn say_hunt(hunt: &mutants::Hunt) {
+    println!(
+        "  {} {:?}: random {}, damaged {}{}, examples {} | {}",
+        found_word(hunt.found()),
+        hunt.mutant,
+        first_call(&hunt.random),
+        first_call(&hunt.damaged),
+        match &hunt.sweep {
+            None => String::new(),
+            some => format!(", sweep {}", first_call(some)),
+        },
+        names(&hunt.examples),
+        hunt.mutant.says()
+    );
+}
+
+fn say_replay_hunt(hunt: &mutants::ReplayHunt) {
+    println!(
+        "  {} {:?}: replay {}, examples {} | {}",
+        found_word(hunt.failure.is_some()),
+        hunt.mutant,
+        match &hunt.failure {
+            None => String::from("-"),
+            Some(failure) => format!("recording {}", failure.recordings),
+        },
+        names(&hunt.examples),
+        hunt.mutant.says()
+    );
+}
+
+fn run_mutants(options: &Options) -> bool {
+    let (calls, recordings) = match options.quick {
+        true => (10_000, 100),
+        false => (30_000, 300),
+    };
+    let hunts = mutants::hunt_all(options.seed, calls);
+    hunts.iter().for_each(say_hunt);
+    let replay_hunts = mutants::hunt_all_in_replay(options.seed, recordings);
+    replay_hunts.iter().for_each(say_replay_hunt);
     let found = hunts.iter().filter(|hunt| hunt.found()).count();
-    println!("mutants: {found} of {} found", hunts.len());
-    found == hunts.len()
+    let in_replay = replay_hunts.iter().filter(|hunt| hunt.failure.is_some());
+    let (found, all) = (found + in_replay.count(), hunts.len() + replay_hunts.len());
+    println!("mutants: {found} of {all} found");
+    found == all
 }
 
 /// Runs a mode that counts, and says what it did.
@@ -176,8 +242,20 @@ fn counted(name: &str, total: &mut Counters, run: impl FnOnce(&mut Counters) -> 
     good
 }
 
+/// The same of recordings.
+fn counted_replay(options: &Options, counters: &mut recordings::counters::Counters) -> bool {
+    let began = Instant::now();
+    let good = run_replay(options, counters);
+    let seconds = began.elapsed().as_secs_f64();
+    let speed = counters.events as f64 / seconds;
+    println!("replay: {seconds:.1} s, {speed:.0} events a second");
+    print!("{counters}");
+    good
+}
+
 fn run(options: &Options) -> bool {
     let mut total = Counters::default();
+    let mut replayed = recordings::counters::Counters::default();
     let has = |mode: &str| options.mode == mode || options.mode == "all";
     let mut good = true;
     if has("vectors") {
@@ -198,32 +276,49 @@ fn run(options: &Options) -> bool {
             run_exhaustive(options, counters)
         });
     }
+    if has("replay") {
+        good &= counted_replay(options, &mut replayed);
+    }
     if has("mutants") {
         good &= run_mutants(options);
     }
     // A run that is asked to be shorter than the quick one is not asked for this.
-    if options.mode == "all" && options.calls.unwrap_or(QUICK) >= QUICK {
-        good &= enough(&total);
+    let shorter = options.calls.is_some_and(|calls| calls < QUICK)
+        || options
+            .recordings
+            .is_some_and(|many| many < QUICK_RECORDINGS)
+        || options.step > 1;
+    if options.mode == "all" && !shorter {
+        good &= enough(&total, &replayed);
     }
-    let word = if good { "all agree" } else { "NOT all agree" };
-    println!(
-        "compare: {word}, {} calls compared, and {} of the inner event, seed {}",
-        total.calls,
-        total.inner + total.settled,
-        options.seed
-    );
+    say_end(good, &total, &replayed, options.seed);
     good
 }
 
-fn enough(total: &Counters) -> bool {
-    match total.reached(LEAST) {
+fn say_end(good: bool, total: &Counters, replayed: &recordings::counters::Counters, seed: u64) {
+    let word = if good { "all agree" } else { "NOT all agree" };
+    println!(
+        "compare: {word}, {} calls compared, and {} of the inner event; {} recordings of {} events; seed {seed}",
+        total.calls,
+        total.inner + total.settled,
+        replayed.recordings,
+        replayed.events,
+    );
+}
+
+fn enough(total: &Counters, replayed: &recordings::counters::Counters) -> bool {
+    let called = total.reached(LEAST);
+    let called = called.map_err(|says| format!("{says}, {LEAST} are asked for"));
+    let reached = called.and(replayed.reached(LEAST_RECORDED));
+    match &reached {
         Ok(()) => println!(
             "each refusal, each kind of event, each way of a new priority among equals, with CPUs offline and with \
-             full slices and the inner event came up at least {LEAST} times"
+             full slices and the inner event came up at least {LEAST} times; in recordings each refusal and kind \
+             {LEAST_RECORDED} times, and each way of a recording often enough"
         ),
-        Err(ref says) => println!("TOO FEW: {says}, {LEAST} are asked for"),
+        Err(says) => println!("TOO FEW: {says}"),
     }
-    total.reached(LEAST).is_ok()
+    reached.is_ok()
 }
 
 fn main() -> ExitCode {

@@ -2,8 +2,8 @@
 
 use crate::case::Failure;
 use crate::counters::Counters;
-use crate::vectors::{wrong, Side};
-use crate::{damaged, random, sweep};
+use crate::vectors::{nights, wrong, Side};
+use crate::{damaged, random, recordings, sweep};
 use reference::Mutant;
 
 /// How an error was found.
@@ -42,15 +42,52 @@ pub fn hunt(mutant: Mutant, seed: u64, calls: u64) -> Hunt {
     hunt
 }
 
-/// Whether no mode finds the error with so many calls.
+/// How an error that only a replay shows was found.
+pub struct ReplayHunt {
+    pub mutant: Mutant,
+    pub examples: Vec<String>,
+    /// The first difference in mode replay.
+    pub failure: Option<recordings::case::Failure>,
+}
+
+/// Looks for such an error in the recordings that leave nothing to chance, though not in all of them, and in so many random
+/// ones.
+pub fn hunt_in_replay(mutant: Mutant, seed: u64, many: u64) -> ReplayHunt {
+    let counters = &mut recordings::counters::Counters::default();
+    let extent = recordings::sweep::Extent {
+        events: 80,
+        cut_step: 7,
+        step: 64,
+    };
+    let failure = recordings::sweep::run(extent, mutant, counters)
+        .or_else(|| recordings::limits::run(1, mutant, counters))
+        .or_else(|| recordings::run(seed, many, mutant, counters));
+    ReplayHunt {
+        mutant,
+        examples: nights::wrong(Side::Theirs(mutant)),
+        failure,
+    }
+}
+
+/// Whether no mode finds the error with so many calls; in a replay, with a hundredth of it in recordings.
 pub fn survives(mutant: Mutant, seed: u64, calls: u64) -> bool {
+    if Mutant::REPLAY.contains(&mutant) {
+        return hunt_in_replay(mutant, seed, calls / 100).failure.is_none();
+    }
     damaged::run(seed, calls, mutant, &mut Counters::default()).is_none()
         && random::run(seed, calls, mutant, &mut Counters::default()).is_none()
         && sweep::run(1, mutant, &mut Counters::default()).is_none()
 }
 
-/// All errors.
+/// All errors but those that only a replay shows.
 pub fn hunt_all(seed: u64, calls: u64) -> Vec<Hunt> {
+    let elsewhere = |mutant: &&Mutant| !Mutant::REPLAY.contains(mutant);
     let each = |&mutant: &Mutant| hunt(mutant, seed, calls);
-    Mutant::ALL.iter().map(each).collect()
+    Mutant::ALL.iter().filter(elsewhere).map(each).collect()
+}
+
+/// Those that only a replay shows.
+pub fn hunt_all_in_replay(seed: u64, many: u64) -> Vec<ReplayHunt> {
+    let each = |&mutant: &Mutant| hunt_in_replay(mutant, seed, many);
+    Mutant::REPLAY.iter().map(each).collect()
 }

@@ -3,19 +3,21 @@
 use reference::Mutant;
 
 pub const HELP: &str = "\
-usage: compare [options] [random|damaged|exhaustive|vectors|mutants|all]
+usage: compare [options] [random|damaged|exhaustive|replay|vectors|mutants|all]
 
 Compares the library with an independent second scheduler. Without a mode: all.
 An event on tables that pass the check is compared once more without the check,
 and if the machine is settled a third time, told so.
 
-  --seed S      the seed of random and damaged (1)
+  --seed S      the seed of random, damaged and replay (1)
   --calls N     calls in each of random and damaged (1000000 and 300000; quick 100000 and 60000),
                 and at most in each search of exhaustive (no limit)
+  --recordings N  random recordings in replay (20000; quick 500)
   --quick       the shorter run
   --step K      of damaged's single numbers, event numbers and machines with all full slices and online
-                masks one in K (1: all); all lengths
-  --case K      this case of random or damaged alone
+                masks, and of replay's cuts, slices, stamps and changed bytes, one in K (1: all); all
+                lengths; the longest recordings with 1 alone
+  --case K      this case of random, damaged or replay alone
   --mutant M    with the error M in the second scheduler: a difference is expected
   --help        this
 
@@ -24,6 +26,7 @@ Ends with 0 if all agree, 1 if something differs, 2 if these words are not under
 pub struct Options {
     pub seed: u64,
     pub calls: Option<u64>,
+    pub recordings: Option<u64>,
     pub quick: bool,
     pub step: usize,
     pub case: Option<u64>,
@@ -36,6 +39,7 @@ pub fn parse(mut words: impl Iterator<Item = String>) -> Result<Option<Options>,
     let mut options = Options {
         seed: 1,
         calls: None,
+        recordings: None,
         quick: false,
         step: 1,
         case: None,
@@ -49,17 +53,19 @@ pub fn parse(mut words: impl Iterator<Item = String>) -> Result<Option<Options>,
             "--quick" => options.quick = true,
             "--seed" => options.seed = number(&value()?)?,
             "--calls" => options.calls = Some(number(&value()?)?),
+            "--recordings" => options.recordings = Some(number(&value()?)?),
             "--step" => options.step = step(&value()?)?,
             "--case" => options.case = Some(number(&value()?)?),
             "--mutant" => options.mutant = mutant(&value()?)?,
-            "random" | "damaged" | "exhaustive" | "vectors" | "mutants" | "all" => {
+            "random" | "damaged" | "exhaustive" | "replay" | "vectors" | "mutants" | "all" => {
                 options.mode = word
             }
             _ => return Err(format!("what is {word}?")),
         }
     }
-    match options.case.is_some() && !matches!(options.mode.as_str(), "random" | "damaged") {
-        true => Err(String::from("--case goes with random or damaged")),
+    let has_cases = matches!(options.mode.as_str(), "random" | "damaged" | "replay");
+    match options.case.is_some() && !has_cases {
+        true => Err(String::from("--case goes with random, damaged or replay")),
         false => Ok(Some(options)),
     }
 }

@@ -1,8 +1,9 @@
 //! K1 to K12 of the paper, with the paper's numbers, 100 named as the full slice and all CPUs online, and some cases of requests
-//! L3, L7 and L8, on our library and on the reference. A log entry is (task, from, to, level of the destination before the move).
+//! L1, L3, L7 and L8, on our library and on the reference. A log entry is (task, from, to, level of the destination before the move).
 
 mod hotplug;
 mod lowered;
+pub mod nights;
 mod slices;
 
 use crate::pair::for_reference_event;
@@ -377,5 +378,6 @@ pub fn wrong(side: Side) -> Vec<String> {
             wrong.push(format!("{name} {says}"));
         }
     }
+    wrong.extend(nights::wrong(side));
     wrong
 }

@@ -1,8 +1,9 @@
 //! Small runs of the modes: our library and the reference agree.
 
 use compare::counters::{Counters, CHECK, EVENT, FIND, MAKE_FRESH, REFUSALS};
+use compare::recordings::sweep::Extent;
 use compare::vectors::{wrong, Side};
-use compare::{damaged, exhaustive, random, sweep};
+use compare::{damaged, exhaustive, random, recordings, sweep};
 use reference::Mutant;
 
 fn none(failure: Option<compare::case::Failure>) {
@@ -79,4 +80,42 @@ fn finder_questions() {
     none(exhaustive::finder(Mutant::None, &mut counters));
     assert!(counters.found > 0 && counters.found_none > 0);
     assert!(counters.answers[FIND][7] > 0 && counters.answers[FIND][8] > 0);
+}
+
+fn none_of_recordings(failure: Option<recordings::case::Failure>) {
+    if let Some(failure) = failure {
+        panic!("{}", failure.cut_down());
+    }
+}
+
+#[test]
+fn recordings_about_all_limits() {
+    let mut counters = recordings::counters::Counters::default();
+    let extent = Extent {
+        events: 80,
+        cut_step: 1,
+        step: 16,
+    };
+    none_of_recordings(recordings::sweep::run(extent, Mutant::None, &mut counters));
+    assert!(counters.lengths.iter().all(|&times| times > 0));
+    assert!(counters.cpus[1..].iter().all(|&times| times > 0));
+    assert!(counters.accepted[1..].iter().all(|&times| times > 0));
+}
+
+#[test]
+fn the_longest_recordings() {
+    let mut counters = recordings::counters::Counters::default();
+    let all = recordings::limits::ALL;
+    none_of_recordings(recordings::limits::run(all, Mutant::None, &mut counters));
+    assert_eq!(counters.recordings, all as u64);
+    assert!(counters.events > 65_000 * all as u64);
+}
+
+#[test]
+fn random_recordings() {
+    let mut counters = recordings::counters::Counters::default();
+    none_of_recordings(recordings::run(2, 120, Mutant::None, &mut counters));
+    assert!(counters.accepted[1..].iter().all(|&times| times > 10));
+    assert!(counters.refused[4..].iter().all(|&times| times > 0));
+    assert!(counters.events > 5000);
 }

@@ -2,7 +2,7 @@
 
 use compare::case::Failure;
 use compare::counters::Counters;
-use compare::random;
+use compare::{random, recordings};
 use reference::Mutant;
 use std::process::Command;
 
@@ -27,6 +27,33 @@ fn a_failure_comes_again_and_gets_small() {
 }
 
 #[test]
+fn a_recording_comes_again_and_gets_small() {
+    let mutant = Mutant::TimesByTasks;
+    let counters = &mut recordings::counters::Counters::default();
+    let failure = recordings::run(1, 100, mutant, counters).expect("a difference");
+    let (seed, case) = failure.origin.from.expect("a seed and a case");
+    let again = recordings::run_case(seed, case, mutant, counters).expect("again");
+    assert_eq!(again.difference, failure.difference);
+    let small = failure.cut_down();
+    assert!(small.case.run(mutant).is_err());
+    assert!(small.case.run(Mutant::None).is_ok());
+    let words = small.to_string();
+    // Two tasks are added and wake in one row, and an event follows; others may bring that about.
+    assert!(small.case.bytes.len() < 200, "{words}");
+    let command = format!("compare --seed {seed} --case {case} --mutant TimesByTasks replay");
+    assert!(words.contains(&command), "{words}");
+}
+
+/// Of the longest recording too little could be left out, each time after a run of all of it.
+#[test]
+fn the_longest_recording_is_not_cut_down_for_long() {
+    let counters = &mut recordings::counters::Counters::default();
+    let failure = recordings::limits::run(1, Mutant::RecordsOneMore, counters);
+    let words = failure.expect("a difference").cut_down().to_string();
+    assert!(words.contains("and 65497 more"), "{words}");
+}
+
+#[test]
 fn too_few_refusals_are_told() {
     let mut counters = Counters::default();
     assert!(random::run(1, 5_000, Mutant::None, &mut counters).is_none());
@@ -46,13 +73,19 @@ fn the_program_ends_with_its_status() {
     assert_eq!(status(&["vectors"]), Some(0));
     assert_eq!(status(&["--calls", "500", "random"]), Some(0));
     assert_eq!(status(&["--case", "7", "damaged"]), Some(0));
+    assert_eq!(status(&["--case", "7", "replay"]), Some(0));
+    let few = ["--quick", "--step", "50", "--recordings", "9", "replay"];
+    assert_eq!(status(&few), Some(0));
     assert_eq!(
         status(&["--mutant", "LogSwapped", "--calls", "500", "random"]),
         Some(1)
     );
     assert_eq!(status(&["--mutant", "EqualOutranks", "vectors"]), Some(1));
+    assert_eq!(status(&["--mutant", "EmptyWhole", "vectors"]), Some(1));
+    assert_eq!(status(&["--mutant", "EmptyWhole", "replay"]), Some(1));
     assert_eq!(status(&["sometimes"]), Some(2));
     assert_eq!(status(&["--seed"]), Some(2));
     assert_eq!(status(&["--calls", "many", "random"]), Some(2));
+    assert_eq!(status(&["--recordings", "many", "replay"]), Some(2));
     assert_eq!(status(&["--case", "7", "vectors"]), Some(2));
 }

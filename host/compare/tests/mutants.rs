@@ -160,6 +160,74 @@ fn examples_show_the_errors_of_placing_online() {
     ]);
 }
 
+/// The errors about recordings, each in one that shows it. Those of tables of another length, of very many records and of
+/// batches no example asks for.
+#[test]
+fn examples_show_the_errors_of_a_replay() {
+    shown(&[
+        (Mutant::EmptyWhole, "night-empty end"),
+        (Mutant::FirstAloneCut, "night-no-event end"),
+        (Mutant::FirstKindCut, "night-first-kind end"),
+        (Mutant::FirstTwelveStops, "night-slice end"),
+        (Mutant::FirstZeroDefault, "night-no-event first record"),
+        (Mutant::BadCpusCut, "night-bad-cpus end"),
+        (Mutant::BadCpusSliceCut, "night-bad-cpus-12 end"),
+        (Mutant::CutSliceStops, "night-half-slice end"),
+        (Mutant::BadSliceCut, "night-bad-slice end"),
+        (Mutant::BadSliceClamped, "night-bad-slice end"),
+        (Mutant::LongestSliceStops, "night-slice end"),
+        (Mutant::SliceLowByte, "night-slice first record"),
+        (Mutant::SliceHighFirst, "night-cut first record"),
+        (Mutant::StampHighFirst, "night-wraps times"),
+        (Mutant::StampThreeBytes, "night-wraps times"),
+        (Mutant::TaskHighFirst, "night-cut rows"),
+        (Mutant::TaskLowByte, "night-cut refused events"),
+        (Mutant::MaskHighFirst, "night-cut refused events"),
+        (Mutant::PriorityBeforePolicy, "night-cut refused events"),
+        (Mutant::HotplugStops, "night-one-byte end"),
+        (Mutant::HotplugBodySix, "night-stopped end"),
+        (Mutant::LaterZeroSkipped, "night-later-0 end"),
+        (Mutant::LaterTwelveSkipped, "night-stopped end"),
+        (Mutant::UnknownSkipped, "night-unknown end"),
+        (Mutant::LastUnknownCut, "night-unknown end"),
+        (Mutant::PlaceAfterKind, "night-stopped end"),
+        (Mutant::PlaceBeforeStop, "night-stopped end"),
+        (Mutant::PlaceOfCutEnd, "night-cut end"),
+        (Mutant::PlaceWholeZero, "night-wraps end"),
+        (Mutant::NoFirstHasCpus, "night-bad-slice first record"),
+        (Mutant::NoFirstHasSlice, "night-empty first record"),
+    ]);
+}
+
+/// The same of times, totals and what the tables hold.
+#[test]
+fn examples_show_the_errors_of_what_a_replay_gives() {
+    shown(&[
+        (Mutant::TimesAfterEvent, "night-cut times"),
+        (Mutant::RefusedStampSkipped, "night-wraps times"),
+        (Mutant::StampsSaturate, "night-wraps times"),
+        (Mutant::StampsApart, "night-wraps times"),
+        (Mutant::LastIntervalLost, "night-cut times: [900, "),
+        (Mutant::BeforeFirstTimed, "night-stopped times: [100, "),
+        (Mutant::OrdinaryTimed, "night-stopped times: [90, "),
+        (Mutant::OfflineTimed, "night-stopped times: [90, 60, 70, "),
+        (Mutant::TimesByTasks, "night-cut times: [3700, "),
+        (Mutant::TimesNarrow, "night-wraps times: [272, 63, "),
+        (Mutant::CutStampCounts, "night-cut times: [2900, "),
+        (Mutant::TimesAdded, "night-cut times: [1909, "),
+        (Mutant::TimesPastKept, "night-cut times: [1900, 9, "),
+        (Mutant::NoFirstKeepsTimes, "night-empty times"),
+        (Mutant::RefusedUncounted, "night-wraps refused events"),
+        (Mutant::RefusedEnds, "night-wraps refused events"),
+        (Mutant::MovesOfLast, "night-stopped moves"),
+        (Mutant::RowsPastCleared, "night-wraps what is beyond N"),
+        (Mutant::CountsPastCleared, "night-wraps what is beyond N"),
+        (Mutant::FlagsPastCleared, "night-wraps what is beyond N"),
+        (Mutant::StoppedGivesNothing, "night-stopped first record"),
+        (Mutant::CutGivesNothing, "night-cut first record"),
+    ]);
+}
+
 /// The two pages that say how many errors there are.
 #[test]
 fn the_pages_count_the_errors() {

@@ -39,6 +39,12 @@ pub fn event(t: &mut Tables, record: &mut Record, e: &Event) -> Outcome {
 /// One event on well-formed tables: nothing is checked but the event. `settled` says that no task is movable, as on
 /// a fresh machine and after an accepted event: then few tasks are looked at.
 pub fn handle(t: &mut Lent, record: &mut Record, e: &Event, settled: bool) -> Outcome {
+    dispatch(t, record, e, settled)
+}
+
+/// The same as a part of the caller, for the replay's loop.
+#[inline(always)]
+pub(crate) fn dispatch(t: &mut Lent, record: &mut Record, e: &Event, settled: bool) -> Outcome {
     match e.kind {
         1 => run(t, record, e, settled, effect::add),
         2 => run(t, record, e, settled, effect::remove),

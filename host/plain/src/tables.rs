@@ -62,9 +62,37 @@ pub struct Lent<'a> {
     pub log: &'a mut [Entry; ENTRIES],
 }
 
-impl Lent<'_> {
+impl<'a> Lent<'a> {
     pub fn is_online(&self, cpu: usize) -> bool {
         *self.online >> cpu & 1 == 1
+    }
+
+    /// The tables of a machine of the first n CPUs, with this full slice.
+    pub fn first_cpus(self, n: usize, full_slice: u16) -> Lent<'a> {
+        Lent {
+            n,
+            full_slice,
+            rows: &mut self.rows[..n],
+            counts: &mut self.counts[..n],
+            flags: &mut self.flags[..n],
+            ..self
+        }
+    }
+
+    /// A fresh machine, whatever the tables held.
+    pub fn make_fresh(&mut self, record: &mut Record) {
+        self.state.fill(0);
+        self.policy.fill(0);
+        self.prio.fill(0);
+        self.cpu.fill(0);
+        self.slice.fill(0);
+        self.mask.fill(0);
+        self.rows.fill([NOTHING; TASKS]);
+        self.counts.fill(0);
+        self.flags.fill(0);
+        *self.online = all(self.n);
+        self.log.fill([NOTHING; ENTRY]);
+        *record = Record::fresh(self.n);
     }
 }
 
@@ -87,19 +115,32 @@ impl Tables {
     pub fn sizes_fit(&self) -> bool {
         (1..=CPUS).contains(&self.n)
             && (1..=SLICE_MAX).contains(&self.full_slice)
-            && [self.state.len(), self.policy.len(), self.prio.len()] == [TASKS; 3]
+            && self.lengths_fit(self.n)
+    }
+
+    /// Each table has the length that so many CPUs ask for.
+    fn lengths_fit(&self, cpus: usize) -> bool {
+        [self.state.len(), self.policy.len(), self.prio.len()] == [TASKS; 3]
             && [self.cpu.len(), self.slice.len(), self.mask.len()] == [TASKS; 3]
-            && [self.rows.len(), self.counts.len(), self.flags.len()] == [self.n; 3]
+            && [self.rows.len(), self.counts.len(), self.flags.len()] == [cpus; 3]
             && self.log.len() == ENTRIES
     }
 
     /// Lends the tables, if their sizes fit.
     pub fn lend(&mut self) -> Option<Lent<'_>> {
-        if !self.sizes_fit() {
+        match self.sizes_fit() {
+            true => self.lend_for(self.n),
+            false => None,
+        }
+    }
+
+    /// Lends tables that have the lengths for so many CPUs, whatever N is.
+    pub fn lend_for(&mut self, cpus: usize) -> Option<Lent<'_>> {
+        if !self.lengths_fit(cpus) {
             return None;
         }
         Some(Lent {
-            n: self.n,
+            n: cpus,
             full_slice: self.full_slice as u16,
             state: self.state.as_mut_slice().try_into().ok()?,
             policy: self.policy.as_mut_slice().try_into().ok()?,
@@ -117,20 +158,10 @@ impl Tables {
 
     /// A fresh machine with the full slice that the tables have, whatever else they held; or nothing is changed.
     pub fn make_fresh(&mut self, record: &mut Record) -> Made {
-        let Some(t) = self.lend() else {
+        let Some(mut t) = self.lend() else {
             return Made::REFUSED;
         };
-        for column in [t.state, t.policy, t.prio, t.cpu] {
-            column.fill(0);
-        }
-        t.slice.fill(0);
-        t.mask.fill(0);
-        t.rows.fill([NOTHING; TASKS]);
-        t.counts.fill(0);
-        t.flags.fill(0);
-        *t.online = all(t.n);
-        t.log.fill([NOTHING; ENTRY]);
-        *record = Record::fresh(t.n);
+        t.make_fresh(record);
         Made {
             answer: 0,
             full_slice: t.full_slice.into(),

@@ -1,6 +1,7 @@
 //! The plain version answers as the library does and leaves the same in every table: random calls on well-formed
-//! and on damaged tables, and events from fresh machines on, which are told that the machine is settled.
+//! and on damaged tables, events from fresh machines on, which are told that the machine is settled, and recordings.
 
+mod recordings;
 mod side;
 
 use binding::{Event, Tables};

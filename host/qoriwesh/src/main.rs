@@ -6,14 +6,23 @@ mod evacuation;
 mod examples;
 mod explain;
 mod help;
+mod input;
 mod log;
 mod marked;
+mod night;
 mod parse;
+mod progress;
+mod record;
+mod recording;
 mod render;
+mod script;
 mod show;
 mod stdout;
+mod text;
 mod words;
 
+use input::Input;
+use recording::{End, Recording};
 use show::Failure;
 use std::env;
 use std::ffi::{OsStr, OsString};
@@ -25,7 +34,28 @@ use std::process::ExitCode;
 enum Command {
     Say(String),
     Examples(Vec<String>),
-    Explain(Option<OsString>),
+    Explain(Input),
+    Replay(Vec<Input>),
+    Record(Input),
+    Text(Input),
+}
+
+/// How a command ends: its exit status. The larger the worse.
+#[derive(Clone, Copy, Debug, PartialEq, Eq, PartialOrd, Ord)]
+enum Status {
+    Well = 0,
+    /// It has told what is not.
+    Told = 1,
+    Wrong = 2,
+}
+
+impl Status {
+    fn of(well: bool) -> Status {
+        match well {
+            true => Status::Well,
+            false => Status::Told,
+        }
+    }
 }
 
 fn main() -> ExitCode {
@@ -36,27 +66,46 @@ fn main() -> ExitCode {
     }
 }
 
-/// Runs a command. What it reads is read whole before anything is shown.
+/// Runs a command. What it reads, of several files each, is read whole before anything is shown.
 fn run(command: Command) -> ExitCode {
     match command {
-        Command::Say(text) => finish(|out| Ok(write!(out, "{text}").map(|()| true)?)),
+        Command::Say(text) => finish(|out| Ok(write!(out, "{text}").map(|()| Status::Well)?)),
         Command::Examples(names) => match examples::Chosen::new(&names) {
-            Ok(chosen) => finish(|out| chosen.show(out)),
+            Ok(chosen) => finish(|out| chosen.show(out).map(Status::of)),
             Err(message) => error(&message),
         },
-        Command::Explain(file) => match explain::read(file.as_deref()) {
-            Ok(lines) => finish(|out| explain::show(out, &lines)),
+        Command::Explain(input) => match explain::read(&input) {
+            Ok(lines) => finish(|out| explain::show(out, &lines).map(Status::of)),
+            Err(message) => error(&message),
+        },
+        Command::Replay(inputs) => finish(|out| night::show(out, &inputs)),
+        Command::Record(input) => match record::read(&input) {
+            Ok(bytes) => finish(|out| Ok(out.write_all(&bytes).map(|()| Status::Well)?)),
+            Err(message) => error(&message),
+        },
+        Command::Text(input) => match text::read(&input) {
+            Ok(recording) => finish(|out| as_text(out, &input.name(), &recording)),
             Err(message) => error(&message),
         },
     }
 }
 
-/// Writes to standard output through a buffer: 0 if all is well, 1 if not. If the reader goes away, as `head`
-/// does, the rest is left unsaid.
-fn finish(show: impl FnOnce(&mut dyn Write) -> Result<bool, Failure>) -> ExitCode {
+/// Writes a recording as a text, and says how it ends if it is not whole.
+fn as_text(out: &mut dyn Write, name: &str, recording: &Recording) -> Result<Status, Failure> {
+    text::write(out, recording)?;
+    out.flush()?;
+    let whole = recording.end == End::Whole;
+    if !whole {
+        complain(&format!("{name}: {}", recording.ended()));
+    }
+    Ok(Status::of(whole))
+}
+
+/// Writes to standard output through a buffer. If the reader goes away, as `head` does, the rest is left unsaid, and all is
+/// well.
+fn finish(show: impl FnOnce(&mut dyn Write) -> Result<Status, Failure>) -> ExitCode {
     match written(show) {
-        Ok(true) => ExitCode::SUCCESS,
-        Ok(false) => ExitCode::from(1),
+        Ok(status) => ExitCode::from(status as u8),
         Err(Failure::Output(broken)) if broken.kind() == ErrorKind::BrokenPipe => ExitCode::SUCCESS,
         Err(Failure::Output(failed)) => error(&format!("standard output: {failed}")),
         Err(Failure::Defect(what)) => error(&format!(
@@ -65,33 +114,45 @@ fn finish(show: impl FnOnce(&mut dyn Write) -> Result<bool, Failure>) -> ExitCod
     }
 }
 
-fn written(show: impl FnOnce(&mut dyn Write) -> Result<bool, Failure>) -> Result<bool, Failure> {
+fn written(
+    show: impl FnOnce(&mut dyn Write) -> Result<Status, Failure>,
+) -> Result<Status, Failure> {
     stdout::open()?;
     let mut out = BufWriter::new(io::stdout().lock());
-    let well = show(&mut out);
+    let status = show(&mut out);
     let flushed = out.flush().map_err(Failure::Output);
-    well.and_then(|well| flushed.map(|()| well))
+    status.and_then(|status| flushed.map(|()| status))
 }
 
-/// Says each line of the message with the program's name, and ends with 2.
-fn error(message: &str) -> ExitCode {
+/// Says each line of the message with the program's name.
+fn complain(message: &str) {
     let mut stderr = io::stderr().lock();
     for line in message.lines() {
         let _ = writeln!(stderr, "qoriwesh: {line}");
     }
-    ExitCode::from(2)
+}
+
+/// Says the message, and ends with 2.
+fn error(message: &str) -> ExitCode {
+    complain(message);
+    ExitCode::from(Status::Wrong as u8)
 }
 
 fn command(args: &[OsString]) -> Result<Command, String> {
     let Some((first, rest)) = args.split_first() else {
-        return Err("expected a command: examples, explain or help".to_string());
+        return Err(
+            "expected a command: examples, explain, replay, record, text or help".to_string(),
+        );
     };
     match first.to_str() {
-        Some("-h" | "--help") => Ok(Command::Say(help::MAIN.to_string())),
+        Some("-h" | "--help") => Ok(say(help::MAIN)),
         Some("-V" | "--version") => Ok(Command::Say(version())),
         Some("help") => help_on(rest),
         Some("examples") => examples_command(rest),
-        Some("explain") => explain_command(rest),
+        Some("explain") => Ok(one_input(rest)?.map_or(say(help::EXPLAIN), Command::Explain)),
+        Some("replay") => replay_command(rest),
+        Some("record") => Ok(one_input(rest)?.map_or(say(help::RECORD), Command::Record)),
+        Some("text") => Ok(one_input(rest)?.map_or(say(help::TEXT), Command::Text)),
         _ if is_option(first) => Err(unknown_option(first)),
         _ => Err(format!("unknown command '{}'", first.to_string_lossy())),
     }
@@ -107,11 +168,18 @@ fn help_on(rest: &[OsString]) -> Result<Command, String> {
         [command] => match command.to_str() {
             Some("examples") => help::EXAMPLES,
             Some("explain") => help::EXPLAIN,
+            Some("replay") => help::REPLAY,
+            Some("record") => help::RECORD,
+            Some("text") => help::TEXT,
             _ => return Err(format!("no help on '{}'", command.to_string_lossy())),
         },
         _ => return Err("expected one command to help with".to_string()),
     };
-    Ok(Command::Say(text.to_string()))
+    Ok(say(text))
+}
+
+fn say(text: &str) -> Command {
+    Command::Say(text.to_string())
 }
 
 /// Splits off the options: `--help` asks for help, `--` ends them, and there is no other.
@@ -134,17 +202,32 @@ fn operands(rest: &[OsString]) -> Result<Option<Vec<&OsString>>, String> {
 
 fn examples_command(rest: &[OsString]) -> Result<Command, String> {
     let Some(names) = operands(rest)? else {
-        return Ok(Command::Say(help::EXAMPLES.to_string()));
+        return Ok(say(help::EXAMPLES));
     };
     let name = |name: &&OsString| name.to_string_lossy().into_owned();
     Ok(Command::Examples(names.iter().map(name).collect()))
 }
 
-fn explain_command(rest: &[OsString]) -> Result<Command, String> {
+fn replay_command(rest: &[OsString]) -> Result<Command, String> {
+    let Some(files) = operands(rest)? else {
+        return Ok(say(help::REPLAY));
+    };
+    let mut inputs: Vec<Input> = files
+        .into_iter()
+        .map(|file| Input::of(Some(file.clone())))
+        .collect();
+    if inputs.is_empty() {
+        inputs.push(Input::of(None));
+    }
+    Ok(Command::Replay(inputs))
+}
+
+/// The one file that a command reads, or standard input; none, if help is asked for.
+fn one_input(rest: &[OsString]) -> Result<Option<Input>, String> {
     match operands(rest)?.as_deref() {
-        None => Ok(Command::Say(help::EXPLAIN.to_string())),
-        Some([]) => Ok(Command::Explain(None)),
-        Some([file]) => Ok(Command::Explain(Some((*file).clone()))),
+        None => Ok(None),
+        Some([]) => Ok(Some(Input::of(None))),
+        Some([file]) => Ok(Some(Input::of(Some((*file).clone())))),
         Some(files) => Err(format!("expected one file, found {}", files.len())),
     }
 }

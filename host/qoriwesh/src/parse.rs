@@ -1,4 +1,4 @@
-//! The text of events that `explain` reads: one command a line.
+//! The text of events that `explain` and `record` read: one command a line.
 //!
 //! A number that the library can be asked with is passed on, in range or not: refusing is the library's. A
 //! line is wrong only if it gives no event at all.
@@ -15,10 +15,19 @@ const BYTE_ORDER_MARK: &[u8] = b"\xef\xbb\xbf";
 /// What a line asks for.
 #[derive(Clone, Copy, Debug, PartialEq, Eq)]
 pub enum Action {
-    /// A fresh machine of so many CPUs, and the ticks of its full slice, if they are named.
-    Machine { cpus: usize, slice: Option<u32> },
-    /// The same event, so many times.
-    Event { event: Event, times: u32 },
+    /// A fresh machine of so many CPUs, and the ticks of its full slice, if they are given; `named`: a recording names them,
+    /// even if they are 100.
+    Machine {
+        cpus: usize,
+        slice: Option<u32>,
+        named: bool,
+    },
+    /// The same event, so many times, and its time in microseconds, if that is given.
+    Event {
+        stamp: Option<u32>,
+        event: Event,
+        times: u32,
+    },
 }
 
 /// A line that asks for something, with its number from 1.
@@ -72,10 +81,11 @@ fn read_line(bytes: &[u8], machine: bool) -> Result<Option<Action>, String> {
     let text = std::str::from_utf8(bytes).map_err(|_| "expected text in UTF-8".to_string())?;
     let text = text.split('#').next().unwrap_or("");
     let words: Vec<&str> = text.split_whitespace().collect();
+    let (stamp, words) = read_stamp(&words)?;
     let Some((command, rest)) = words.split_first() else {
         return Ok(None);
     };
-    let action = read_action(command, rest)?;
+    let action = read_action(stamp, command, rest)?;
     if !machine && !matches!(action, Action::Machine { .. }) {
         return Err(format!(
             "expected 'cpus N' before the first event, found {}",
@@ -85,29 +95,53 @@ fn read_line(bytes: &[u8], machine: bool) -> Result<Option<Action>, String> {
     Ok(Some(action))
 }
 
-fn read_action(command: &str, rest: &[&str]) -> Result<Action, String> {
-    match command {
-        "cpus" => read_machine(rest),
-        "tick" => read_tick(rest),
-        _ => Ok(Action::Event {
-            event: read_event(command, rest)?,
-            times: 1,
-        }),
-    }
+/// The stamp before an event, if there is one, and the words behind it.
+fn read_stamp<'a, 'b>(words: &'b [&'a str]) -> Result<(Option<u32>, &'b [&'a str]), String> {
+    let Some(digits) = words.first().and_then(|word| word.strip_prefix('@')) else {
+        return Ok((None, words));
+    };
+    let stamp: u32 = number(digits, "microseconds after '@'")?;
+    let found = match words.get(1) {
+        None => "nothing".to_string(),
+        Some(&"cpus") => quoted("cpus"),
+        Some(_) => return Ok((Some(stamp), &words[1..])),
+    };
+    let stamp = quoted(words[0]);
+    Err(format!("expected an event after {stamp}, found {found}"))
+}
+
+fn read_action(stamp: Option<u32>, command: &str, rest: &[&str]) -> Result<Action, String> {
+    let (event, times) = match command {
+        "cpus" => return read_machine(rest),
+        "tick" => read_tick(rest)?,
+        _ => (read_event(command, rest)?, 1),
+    };
+    Ok(Action::Event {
+        stamp,
+        event,
+        times,
+    })
 }
 
 fn read_machine(rest: &[&str]) -> Result<Action, String> {
-    let (cpus, slice) = match *rest {
-        [cpus] => (cpus, None),
-        [cpus, "slice", ticks] => (cpus, Some(number(ticks, "a number of ticks")?)),
+    let (cpus, ticks, named) = match *rest {
+        [cpus] => (cpus, None, false),
+        [cpus, "slice", ticks] => (cpus, Some(ticks), false),
+        [cpus, "slice", ticks, "named"] => (cpus, Some(ticks), true),
+        [_, "slice", _, word] => return Err(format!("expected 'named', found {}", quoted(word))),
         [_, word, _] => return Err(format!("expected 'slice', found {}", quoted(word))),
-        _ => return Err(wrong_form("cpus N [slice TICKS]", rest)),
+        _ => return Err(wrong_form("cpus N [slice TICKS [named]]", rest)),
     };
     let cpus = number(cpus, "a number of CPUs")?;
-    Ok(Action::Machine { cpus, slice })
+    let ticks = ticks.map(|ticks| number(ticks, "a number of ticks"));
+    Ok(Action::Machine {
+        cpus,
+        slice: ticks.transpose()?,
+        named,
+    })
 }
 
-fn read_tick(rest: &[&str]) -> Result<Action, String> {
+fn read_tick(rest: &[&str]) -> Result<(Event, u32), String> {
     let (cpu, times) = match *rest {
         [cpu] => (cpu, 1),
         [cpu, times] => (cpu, number(times, "how many ticks")?),
@@ -116,8 +150,7 @@ fn read_tick(rest: &[&str]) -> Result<Action, String> {
     if !(1..=MOST_TICKS).contains(&times) {
         return Err(format!("expected 1 to {MOST_TICKS} ticks, found {times}"));
     }
-    let event = Event::new(7, cpu_number(cpu)?, 0, 0, 0);
-    Ok(Action::Event { event, times })
+    Ok((Event::new(7, cpu_number(cpu)?, 0, 0, 0), times))
 }
 
 fn read_event(command: &str, rest: &[&str]) -> Result<Event, String> {
@@ -274,6 +307,7 @@ mod tests {
 
     fn is(line: &str, kind: u32, who: u32, a: u32, b: u32, mask: u64) {
         let expected = Action::Event {
+            stamp: None,
             event: Event::new(kind, who, a, b, mask),
             times: 1,
         };
@@ -301,10 +335,15 @@ mod tests {
 
     #[test]
     fn a_tick_may_be_repeated() {
-        let Ok(Action::Event { event: tick, times }) = one("tick 2 99") else {
-            panic!("no event");
+        let ticks = |stamp| {
+            Ok(Action::Event {
+                stamp,
+                event: Event::new(7, 2, 0, 0, 0),
+                times: 99,
+            })
         };
-        assert_eq!((tick.kind, tick.who, times), (7, 2, 99));
+        assert_eq!(one("tick 2 99"), ticks(None));
+        assert_eq!(one("@7 tick 2 99"), ticks(Some(7)));
         assert_eq!(
             one("tick 2 0").unwrap_err(),
             "expected 1 to 10000 ticks, found 0"
@@ -342,8 +381,11 @@ mod tests {
         is("offline 64", 10, 64, 0, 0, 0);
         is("online 4294967295", 11, u32::MAX, 0, 0, 0);
         for cpus in [0, 65, usize::MAX] {
-            let slice = None;
-            let action = Action::Machine { cpus, slice };
+            let action = Action::Machine {
+                cpus,
+                slice: None,
+                named: false,
+            };
             assert_eq!(one(&format!("cpus {cpus}")), Ok(action));
         }
     }
@@ -351,11 +393,27 @@ mod tests {
     #[test]
     fn a_machine_may_name_its_slice() {
         for ticks in [0, 1, 25, 1000, 1001, 65561, u32::MAX] {
-            let action = Action::Machine {
+            let action = |named| Action::Machine {
                 cpus: 2,
                 slice: Some(ticks),
+                named,
             };
-            assert_eq!(one(&format!("cpus 2 slice {ticks}")), Ok(action));
+            let line = format!("cpus 2 slice {ticks}");
+            assert_eq!(one(&line), Ok(action(false)));
+            assert_eq!(one(&format!("{line} named")), Ok(action(true)));
+        }
+    }
+
+    #[test]
+    fn an_event_may_have_a_stamp() {
+        for stamp in [0, 1500, u32::MAX] {
+            let wake = Action::Event {
+                stamp: Some(stamp),
+                event: Event::new(3, 7, 0, 0, 0),
+                times: 1,
+            };
+            assert_eq!(one(&format!("@{stamp} wake 7")), Ok(wake));
+            assert_eq!(one(&format!("\t@{stamp}\twake 7 # so")), Ok(wake));
         }
     }
 
@@ -364,14 +422,23 @@ mod tests {
         for (line, message) in [
             ("wake", "expected 'wake TASK', found nothing after 'wake'"),
             ("wake 1 2", "expected 'wake TASK', found 2 words after 'wake'"),
-            ("cpus", "expected 'cpus N [slice TICKS]', found nothing after 'cpus'"),
-            ("cpus 2 slice", "expected 'cpus N [slice TICKS]', found 2 words after 'cpus'"),
-            ("cpus 2 slice 25 ticks", "expected 'cpus N [slice TICKS]', found 4 words after 'cpus'"),
+            ("cpus", "expected 'cpus N [slice TICKS [named]]', found nothing after 'cpus'"),
+            ("cpus 2 slice", "expected 'cpus N [slice TICKS [named]]', found 2 words after 'cpus'"),
+            ("cpus 2 ticks 25 named", "expected 'cpus N [slice TICKS [named]]', found 4 words after 'cpus'"),
+            ("cpus 2 slice 25 ticks", "expected 'named', found 'ticks'"),
             ("cpus 2 ticks 25", "expected 'slice', found 'ticks'"),
             ("cpus two slice 25", "expected a number of CPUs, found 'two'"),
             ("cpus 2 slice long", "expected a number of ticks, found 'long'"),
             ("cpus 2 slice -1", "expected a number of ticks, found '-1'"),
             ("cpus 2 slice 4294967296", "expected a number of ticks of 32 bits, found '4294967296'"),
+            ("@x wake 0", "expected microseconds after '@', found 'x'"),
+            ("@ 5 wake 0", "expected microseconds after '@', found ''"),
+            ("@-5 wake 0", "expected microseconds after '@', found '-5'"),
+            ("@4294967296 wake 0", "expected microseconds after '@' of 32 bits, found '4294967296'"),
+            ("@5", "expected an event after '@5', found nothing"),
+            ("@5 cpus 2", "expected an event after '@5', found 'cpus'"),
+            ("@5 @6 wake 0", "expected cpus, add, remove, wake, sleep, prio, affinity, tick, yield, ordinary, offline, online or event, found '@6'"),
+            ("wake @5 0", "expected 'wake TASK', found 2 words after 'wake'"),
             ("wake x", "expected a task number, found 'x'"),
             ("wake -1", "expected a task number, found '-1'"),
             ("wake +1", "expected a task number, found '+1'"),

@@ -58,6 +58,15 @@ pub struct Tally {
     pub accepted: u64,
     pub refused: u64,
     pub moves: u64,
+    /// The events that the library ran. What the others do followed from tables that came again.
+    pub run: u64,
+}
+
+/// What stands before an event or a machine: its number and, of an event that has one, its stamp.
+#[derive(Clone, Copy)]
+struct Mark {
+    number: usize,
+    stamp: Option<u32>,
 }
 
 /// A machine, and where its story is told.
@@ -98,12 +107,19 @@ impl<'a> Show<'a> {
     pub fn action(&mut self, number: usize, action: Action) -> Result<Step, Failure> {
         let cycle = self.cycle.take();
         match action {
-            Action::Machine { cpus, slice } => self.machine(number, cpus, slice),
-            Action::Event { event, times: 1 } => self.event(number, event),
-            Action::Event { event, times } => {
+            Action::Machine { cpus, slice, .. } => self.machine(number, cpus, slice),
+            Action::Event {
+                stamp,
+                event,
+                times,
+            } => {
+                let mark = Mark { number, stamp };
+                if times == 1 {
+                    return self.event(mark, event);
+                }
                 let cycle = cycle.filter(|cycle| cycle.is_of(event));
                 let cycle = cycle.unwrap_or_else(|| Cycle::new(event, &self.tables));
-                self.events(number, event, u64::from(times), cycle)
+                self.events(mark, event, u64::from(times), cycle)
             }
         }
     }
@@ -112,10 +128,12 @@ impl<'a> Show<'a> {
     fn machine(&mut self, number: usize, n: usize, slice: Option<u32>) -> Result<Step, Failure> {
         let (fresh, made) = make(n, slice);
         let answer = made.answer;
+        let stamp = None;
+        let mark = Mark { number, stamp };
         if answer == 0 {
             self.shown = render::state(&fresh);
             let title = words::machine(n, Some(made.full_slice));
-            self.titled(number, &title, "made, all idle")?;
+            self.titled(mark, &title, "made, all idle")?;
         } else {
             self.tally.refused += 1;
             let stays = match self.made {
@@ -124,7 +142,7 @@ impl<'a> Show<'a> {
             };
             let why = words::refused_machine(answer, &fresh);
             let title = words::machine(n, slice);
-            self.titled(number, &title, &format!("{why}; {stays}"))?;
+            self.titled(mark, &title, &format!("{why}; {stays}"))?;
         }
         if answer == 0 || !self.made {
             self.tables = fresh;
@@ -134,17 +152,17 @@ impl<'a> Show<'a> {
     }
 
     /// An event once.
-    fn event(&mut self, number: usize, event: Event) -> Result<Step, Failure> {
+    fn event(&mut self, mark: Mark, event: Event) -> Result<Step, Failure> {
         let before = self.tables.clone();
         let step = self.handle(&before, event)?;
-        self.step(number, event, &step)?;
+        self.step(mark, event, &step)?;
         Ok(step)
     }
 
     /// The same event several times. Those without moves are shown together; a refusal ends them.
     fn events(
         &mut self,
-        number: usize,
+        mark: Mark,
         event: Event,
         mut left: u64,
         mut cycle: Cycle,
@@ -167,16 +185,16 @@ impl<'a> Show<'a> {
                 cycle.see(&self.tables);
                 continue;
             }
-            self.quiet(number, event, quiet, &before)?;
+            self.quiet(mark, event, quiet, &before)?;
             quiet = 0;
-            self.step(number, event, &last)?;
+            self.step(mark, event, &last)?;
             if last.answer != 0 {
                 return Ok(last);
             }
             cycle = Cycle::new(event, &self.tables);
         }
         let tables = self.tables.clone();
-        self.quiet(number, event, quiet, &tables)?;
+        self.quiet(mark, event, quiet, &tables)?;
         self.cycle = Some(cycle);
         Ok(last)
     }
@@ -193,25 +211,26 @@ impl<'a> Show<'a> {
         self.tally.accepted += u64::from(step.answer == 0);
         self.tally.refused += u64::from(step.answer != 0);
         self.tally.moves += step.moves.len() as u64;
+        self.tally.run += 1;
     }
 
     /// Shows accepted events without moves, and the rows after them.
-    fn quiet(&mut self, n: usize, e: Event, times: u64, after: &Tables) -> Result<(), Failure> {
+    fn quiet(&mut self, mark: Mark, e: Event, times: u64, after: &Tables) -> Result<(), Failure> {
         if times == 0 {
             return Ok(());
         }
-        self.titled(n, &words::events(e, times), &words::accepted(0))?;
+        self.titled(mark, &words::events(e, times), &words::accepted(0))?;
         self.changed(after)
     }
 
     /// Shows one event, with who leaves a CPU, its moves and the rows after it.
-    fn step(&mut self, number: usize, event: Event, step: &Step) -> Result<(), Failure> {
+    fn step(&mut self, mark: Mark, event: Event, step: &Step) -> Result<(), Failure> {
         let title = words::event(event);
         if step.answer != 0 {
             let why = words::refused(step.answer, event, &self.tables);
-            return self.titled(number, &title, &format!("{why}; nothing was changed"));
+            return self.titled(mark, &title, &format!("{why}; nothing was changed"));
         }
-        self.titled(number, &title, &words::accepted(step.moves.len()))?;
+        self.titled(mark, &title, &words::accepted(step.moves.len()))?;
         for line in render::leavers(&step.leavers) {
             self.line(&line)?;
         }
@@ -221,9 +240,13 @@ impl<'a> Show<'a> {
         self.state()
     }
 
-    /// A number, what is done and what is answered: on one line if there is room.
-    fn titled(&mut self, number: usize, title: &str, answer: &str) -> Result<(), Failure> {
-        let line = format!("{number:>4}  {title}");
+    /// A number, a stamp, what is done and what is answered: on one line if there is room.
+    fn titled(&mut self, mark: Mark, title: &str, answer: &str) -> Result<(), Failure> {
+        let Mark { number, stamp } = mark;
+        let line = match stamp {
+            Some(stamp) => format!("{number:>4}  @{stamp}  {title}"),
+            None => format!("{number:>4}  {title}"),
+        };
         if line.len() + 2 <= ANSWER && ANSWER + answer.len() <= render::WIDTH {
             writeln!(self.out, "{line:<ANSWER$}{answer}")?;
             return Ok(());
@@ -337,6 +360,20 @@ mod tests {
         assert!(text.contains("a machine of 64 CPUs, slice 1000 "), "{text}");
     }
 
+    /// Of one event, of several together, and of a refused one.
+    #[test]
+    fn a_stamp_is_shown_before_its_event() {
+        let (text, _) = told("cpus 1\n@4294967295 add 0 rr 9 0\n@7 tick 0 3\n@8 wake 1\nwake 0");
+        for line in [
+            "   2  @4294967295  add task 0: rr, priority 9, CPU 0        accepted, 0 moves\n",
+            "   3  @7  tick on CPU 0, 3 times                            accepted, 0 moves\n",
+            "   4  @8  wake task 1\n      refused (5)",
+            "   5  wake task 0 ",
+        ] {
+            assert!(text.contains(line), "{text}");
+        }
+    }
+
     #[test]
     fn without_a_machine_every_event_is_refused_with_1() {
         let (text, tally) = told("cpus 0\nwake 0\ncpus 1\nadd 0 fifo 9 0");
@@ -381,7 +418,11 @@ mod tests {
             for line in parse(format!("{tasks}{ticks}").as_bytes()).unwrap() {
                 show.action(line.number, line.action).unwrap();
             }
-            (show.tables.clone(), show.tally)
+            let tally = Tally {
+                run: 0,
+                ..show.tally
+            };
+            (show.tables.clone(), tally)
         };
         for times in [2, 49, 50, 51, 300, 301, 777, 9000] {
             let single = end(&"tick 0\n".repeat(times));
@@ -395,6 +436,29 @@ mod tests {
         // A round may be longer than what a line asks for.
         let single = end(&"tick 0\n".repeat(13 * 700));
         assert_eq!(end(&"tick 0 700\n".repeat(13)), single, "13 lines");
+    }
+
+    /// On an idle CPU, under a fifo task, and under rr tasks that take turns: with the shortest slices, and with the longest,
+    /// of which a round has more ticks than a line. One of them yields a part of its slice, which does not come again.
+    #[test]
+    fn of_many_ticks_not_one_in_a_hundred_is_run() {
+        let mut tasks = "add 0 fifo 50 1\nwake 0\n".to_string();
+        for task in 1..12 {
+            tasks += &format!("add {task} rr 50 2\nwake {task}\n");
+        }
+        tasks += "tick 2 5\nyield 2\n";
+        let ticks = |cpu| format!("tick {cpu} 10000\n").repeat(700);
+        for (machine, cpu) in [
+            ("cpus 64", 0),
+            ("cpus 64", 1),
+            ("cpus 64", 2),
+            ("cpus 64 slice 1", 2),
+            ("cpus 64 slice 1000", 2),
+        ] {
+            let (_, tally) = told(&format!("{machine}\n{tasks}{}", ticks(cpu)));
+            assert_eq!((tally.accepted, tally.refused), (7_000_030, 0));
+            assert!(tally.run < 70_000, "{machine}, CPU {cpu}: {}", tally.run);
+        }
     }
 
     /// What is remembered of earlier ticks has another online mask.

@@ -4,7 +4,7 @@ use crate::cpulist;
 use binding::{Event, Tables, CPUS, SLICE_MAX, SLICE_MIN, TASKS};
 
 /// `CPU 3`, `CPUs 0-1` or `no CPU`.
-fn cpus(mask: u64) -> String {
+pub fn cpus(mask: u64) -> String {
     match mask.count_ones() {
         0 => "no CPU".to_string(),
         1 => format!("CPU {}", cpulist::write(mask)),
@@ -64,9 +64,14 @@ pub fn events(e: Event, times: u64) -> String {
 
 /// `a machine of 3 CPUs, slice 25`; without the slice, if it is not known.
 pub fn machine(n: usize, slice: Option<u32>) -> String {
+    format!("a machine of {}", size(n, slice))
+}
+
+/// `3 CPUs, slice 25`
+pub fn size(n: usize, slice: Option<u32>) -> String {
     let cpus = match n {
-        1 => "a machine of 1 CPU".to_string(),
-        _ => format!("a machine of {n} CPUs"),
+        1 => "1 CPU".to_string(),
+        _ => format!("{n} CPUs"),
     };
     match slice {
         Some(ticks) => format!("{cpus}, slice {ticks}"),
@@ -134,6 +139,23 @@ fn reason(answer: u8, e: Event, tables: &Tables) -> String {
 
 fn unknown() -> String {
     "for a reason unknown to this tool".to_string()
+}
+
+/// What all refusals of a number have in common, of those that an event of a recording can meet.
+pub fn refusals(answer: u8) -> String {
+    let common = match answer {
+        4 => "no such task or CPU",
+        5 => "the task is not in the state that the event needs",
+        6 => "a policy other than fifo and rr",
+        7 => "a priority not 1 to 99, or ordinary work not 0 or 1",
+        8 => "a mask with no CPU, or with one that is not there",
+        9 => "a yield on a CPU with no task",
+        10 => "no allowed CPU online for a runnable or waking task",
+        11 => "the CPU is offline, or already as it should become",
+        12 => "the last online CPU stays online",
+        _ => return unknown(),
+    };
+    common.to_string()
 }
 
 /// Which task would have no allowed CPU that is online. Of the tasks of a CPU that is to go, the first such one.
@@ -351,7 +373,7 @@ mod tests {
         let mut last = String::new();
         for line in parse(text.as_bytes()).unwrap() {
             match line.action {
-                Action::Machine { cpus, slice } => (tables, _) = show::make(cpus, slice),
+                Action::Machine { cpus, slice, .. } => (tables, _) = show::make(cpus, slice),
                 Action::Event { event, .. } => {
                     let outcome = tables.event(event);
                     last = match outcome.answer {

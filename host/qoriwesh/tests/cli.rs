@@ -1,41 +1,13 @@
 //! The built program: its output, byte for byte, and its exit statuses.
 
+mod common;
+mod page;
+
+use common::{run, PROGRAM};
+use page::{blocks, here, page};
 use std::fs;
 use std::io::{Read, Write};
-use std::path::{Path, PathBuf};
 use std::process::{Command, Stdio};
-use std::time::{Duration, Instant};
-
-const PROGRAM: &str = env!("CARGO_BIN_EXE_qoriwesh");
-
-struct Ended {
-    status: i32,
-    out: String,
-    err: String,
-}
-
-/// Runs the program with this standard input.
-fn run(args: &[&str], input: &[u8]) -> Ended {
-    let mut child = Command::new(PROGRAM)
-        .args(args)
-        .stdin(Stdio::piped())
-        .stdout(Stdio::piped())
-        .stderr(Stdio::piped())
-        .spawn()
-        .unwrap();
-    // A program that reads no input may have ended before it is written.
-    let _ = child.stdin.take().unwrap().write_all(input);
-    let output = child.wait_with_output().unwrap();
-    Ended {
-        status: output.status.code().unwrap(),
-        out: String::from_utf8(output.stdout).unwrap(),
-        err: String::from_utf8(output.stderr).unwrap(),
-    }
-}
-
-fn here(path: &str) -> PathBuf {
-    Path::new(env!("CARGO_MANIFEST_DIR")).join(path)
-}
 
 /// Holds an output to a file. If it is to change, run the program into the file, and read the difference.
 fn held(out: &str, path: &str) {
@@ -45,6 +17,8 @@ fn held(out: &str, path: &str) {
     }
     assert!(out == expected, "{path}: one of the two is longer");
 }
+
+const COMMANDS: [&str; 5] = ["examples", "explain", "replay", "record", "text"];
 
 fn script(name: &str) -> String {
     here(name).to_str().unwrap().to_string()
@@ -100,25 +74,16 @@ fn every_line_fits_80_columns() {
             assert_eq!(line, line.trim_end(), "{path}");
         }
     }
-    for args in [&["--help"][..], &["help", "examples"], &["help", "explain"]] {
-        let ended = run(args, b"");
-        assert!(ended.out.lines().all(|line| line.len() <= 80), "{args:?}");
+    let helps = COMMANDS.map(|command| run(&["help", command], b"").out);
+    for help in helps.iter().chain([&run(&["--help"], b"").out]) {
+        assert!(help.lines().all(|line| line.len() <= 80), "{help}");
     }
 }
 
-/// The blocks of a page with this title.
-fn blocks<'a>(page: &'a str, title: &str) -> Vec<&'a str> {
-    let title = format!("```{title}\n");
-    let begun = page.split(&title).skip(1);
-    begun
-        .map(|text| text.split("```").next().unwrap())
-        .collect()
-}
-
-/// The two worked examples of docs/TOOL.md are what the program says.
+/// The two worked examples of docs/TOOL.md that are explained are what the program says.
 #[test]
 fn the_page_shows_what_the_program_says() {
-    let page = fs::read_to_string(here("../../docs/TOOL.md")).unwrap();
+    let page = page();
     let (events, outputs) = (blocks(&page, "events"), blocks(&page, "output"));
     assert_eq!((events.len(), outputs.len()), (2, 2));
     for (events, output) in events.iter().zip(outputs) {
@@ -216,50 +181,18 @@ fn a_byte_order_mark_is_no_part_of_the_text() {
     assert_eq!(marked.out, plain.out);
 }
 
-/// Runs a text that takes long if something in it is done again and again.
-fn run_soon(text: &str) -> Ended {
-    let begin = Instant::now();
-    let ended = run(&["explain"], text.as_bytes());
-    assert!(begin.elapsed() < Duration::from_secs(10));
-    ended
-}
-
 #[test]
-fn a_list_of_many_cpus_is_read_soon() {
+fn a_list_of_many_cpus_is_read() {
     let list = "0,".repeat(400_000);
-    let ended = run_soon(&format!("cpus 1\nadd 0 fifo 50 {list}0\n"));
+    let explained = |text: &str| run(&["explain"], text.as_bytes());
+    let ended = explained(&format!("cpus 1\nadd 0 fifo 50 {list}0\n"));
     assert_eq!((ended.status, ended.err.as_str()), (0, ""));
-    let ended = run_soon(&format!("cpus 1\nadd 0 fifo 50 {list}64\n"));
+    let ended = explained(&format!("cpus 1\nadd 0 fifo 50 {list}64\n"));
     assert_eq!(
         ended.err,
         "qoriwesh: <stdin>:2: expected CPUs 0 to 63, which a mask of 64 bits can name, found '64'\n\
          qoriwesh: <stdin>: 1 line could not be read; no event was run\n"
     );
-}
-
-/// On an idle CPU, under a fifo task, and under rr tasks that take turns: with the shortest slices, and with the longest,
-/// of which a round has more ticks than a line. One of them yields a part of its slice, which does not come again.
-#[test]
-fn many_ticks_are_run_soon() {
-    let mut tasks = "add 0 fifo 50 1\nwake 0\n".to_string();
-    for task in 1..12 {
-        tasks += &format!("add {task} rr 50 2\nwake {task}\n");
-    }
-    tasks += "tick 2 5\nyield 2\n";
-    for (machine, cpu) in [
-        ("cpus 64", 0),
-        ("cpus 64", 1),
-        ("cpus 64", 2),
-        ("cpus 64 slice 1", 2),
-        ("cpus 64 slice 1000", 2),
-    ] {
-        let ticks = format!("tick {cpu} 10000\n").repeat(2000);
-        let ended = run_soon(&format!("{machine}\n{tasks}{ticks}"));
-        assert_eq!((ended.status, ended.err.as_str()), (0, ""));
-        assert!(ended
-            .out
-            .ends_with("\n20000030 accepted, 0 refused, 0 moves in all\n"));
-    }
 }
 
 #[test]
@@ -275,10 +208,10 @@ fn a_file_that_cannot_be_read() {
 #[test]
 fn a_text_that_is_too_long_is_not_run() {
     let mut text = b"cpus 1\n".to_vec();
-    text.resize((1 << 20) + 1, b'\n');
+    text.resize((1 << 22) + 1, b'\n');
     let ended = run(&["explain"], &text);
     assert_eq!((ended.status, ended.out.as_str()), (2, ""));
-    assert!(ended.err.contains("at most 1048576 bytes"), "{}", ended.err);
+    assert!(ended.err.contains("at most 4194304 bytes"), "{}", ended.err);
     text.pop();
     assert_eq!(run(&["explain"], &text).status, 0);
 }
@@ -292,7 +225,12 @@ fn wrong_command_lines() {
         (&["-x"], "unknown option '-x'"),
         (&["explain", "--all"], "unknown option '--all'"),
         (&["examples", "-v"], "unknown option '-v'"),
+        (&["replay", "-n"], "unknown option '-n'"),
+        (&["record", "-o"], "unknown option '-o'"),
+        (&["text", "--all"], "unknown option '--all'"),
         (&["explain", "a", "b"], "expected one file, found 2"),
+        (&["record", "a", "b"], "expected one file, found 2"),
+        (&["text", "a", "b", "c"], "expected one file, found 3"),
         (&["help", "replai"], "no help on 'replai'"),
         (&["help", "explain", "examples"], "expected one command"),
     ] {
@@ -318,10 +256,12 @@ fn help_and_version() {
     assert_eq!((main.status, main.err.as_str()), (0, ""));
     assert_eq!(run(&["-h"], b"").out, main.out);
     assert_eq!(run(&["help"], b"").out, main.out);
-    for command in ["examples", "explain"] {
+    for command in COMMANDS {
+        assert!(main.out.contains(&format!(" qoriwesh {command} [")));
         let help = run(&["help", command], b"");
         assert!(help.out.starts_with(&format!("usage: qoriwesh {command}")));
         assert_eq!(run(&[command, "--help"], b"").out, help.out);
+        assert_eq!((help.status, help.err.as_str()), (0, ""));
     }
 }
 
@@ -370,7 +310,7 @@ fn an_output_that_cannot_be_written_is_an_error() {
 
 #[test]
 fn a_closed_output_is_an_error() {
-    for args in ["examples", "explain", "--help"] {
+    for args in COMMANDS.into_iter().chain(["--help"]) {
         let mut child = Command::new("sh")
             .args(["-c", "exec \"$0\" \"$1\" >&-", PROGRAM, args])
             .stdin(Stdio::piped())

@@ -1,24 +1,33 @@
 //! Known errors, to be put into the reference one at a time.
 
 macro_rules! mutants {
-    ($($(#[doc = $says:literal])* $name:ident,)*) => {
+    (
+        $($(#[doc = $says:literal])* $name:ident,)*
+        ;
+        $($(#[doc = $replay_says:literal])* $replay_name:ident,)*
+    ) => {
         /// Which error the reference has.
         #[derive(Clone, Copy, Debug, PartialEq, Eq)]
         pub enum Mutant {
             /// The paper's behaviour.
             None,
             $($(#[doc = $says])* $name,)*
+            $($(#[doc = $replay_says])* $replay_name,)*
         }
 
         impl Mutant {
             /// Every error, without `None`.
-            pub const ALL: &'static [Mutant] = &[$(Mutant::$name,)*];
+            pub const ALL: &'static [Mutant] = &[$(Mutant::$name,)* $(Mutant::$replay_name,)*];
+
+            /// Those of them that only a replay shows.
+            pub const REPLAY: &'static [Mutant] = &[$(Mutant::$replay_name,)*];
 
             /// What is wrong, in words.
             pub fn says(self) -> &'static str {
                 match self {
                     Mutant::None => "no error",
                     $(Mutant::$name => concat!($($says),*).trim_ascii(),)*
+                    $(Mutant::$replay_name => concat!($($replay_says),*).trim_ascii(),)*
                 }
             }
         }
@@ -278,4 +287,150 @@ mutants! {
     FinderHighest,
     /// a finder that finds nothing gives level 0
     FinderNoneIsZero,
+    ;
+    // Those that only a replay shows.
+    /// an empty recording is whole
+    EmptyWhole,
+    /// a first record that no event follows is cut
+    FirstAloneCut,
+    /// a first kind that is no first one is cut
+    FirstKindCut,
+    /// a first kind 12 stops the replay
+    FirstTwelveStops,
+    /// a first kind 0 means a full slice of 25
+    FirstZeroDefault,
+    /// an N out of range is cut
+    BadCpusCut,
+    /// an N out of range is cut if its slice is
+    BadCpusSliceCut,
+    /// an N of 64 stops the replay
+    AllCpusStop,
+    /// a slice that is cut stops the replay
+    CutSliceStops,
+    /// a slice out of range is cut
+    BadSliceCut,
+    /// a slice out of range is the nearest in range
+    BadSliceClamped,
+    /// a slice of 1000 stops the replay
+    LongestSliceStops,
+    /// of a recorded slice the low byte is read
+    SliceLowByte,
+    /// a recorded slice has its high byte first
+    SliceHighFirst,
+    /// a stamp has its high byte first
+    StampHighFirst,
+    /// of a stamp three bytes are read
+    StampThreeBytes,
+    /// a recorded task number has its high byte first
+    TaskHighFirst,
+    /// of a recorded task number the low byte is read
+    TaskLowByte,
+    /// a recorded mask has its high byte first
+    MaskHighFirst,
+    /// of a recorded mask the low four bytes are read
+    MaskFourBytes,
+    /// an add has its priority before its policy
+    PriorityBeforePolicy,
+    /// the bodies of kinds 10 and 11 are 6 bytes
+    HotplugBodySix,
+    /// kinds 10 and 11 stop the replay
+    HotplugStops,
+    /// a later 0 is skipped
+    LaterZeroSkipped,
+    /// a later 12 is skipped
+    LaterTwelveSkipped,
+    /// a byte of an unknown kind is skipped
+    UnknownSkipped,
+    /// a last byte of an unknown kind is cut
+    LastUnknownCut,
+    /// 65,535 records at most
+    RecordsOneLess,
+    /// 65,536 records at most, without the first
+    RecordsOneMore,
+    /// any number of records
+    RecordsUnlimited,
+    /// a byte after record 65,536 is cut
+    TooManyCut,
+    /// a record after record 65,536 that is cut is cut
+    TooManyCutCut,
+    /// the place of a stop is the byte after its kind
+    PlaceAfterKind,
+    /// the place of a stop is the record before it
+    PlaceBeforeStop,
+    /// the place of a cut is the recording's end
+    PlaceOfCutEnd,
+    /// the place of a whole recording is 0
+    PlaceWholeZero,
+    /// an interval goes to the CPUs that have a task after the event that ends it
+    TimesAfterEvent,
+    /// a refused event's stamp is skipped
+    RefusedStampSkipped,
+    /// a stamp before the one before it gives no time
+    StampsSaturate,
+    /// the time between two stamps is their distance
+    StampsApart,
+    /// the interval that the last event ends is lost
+    LastIntervalLost,
+    /// the time from stamp 0 to the first event's goes to every CPU
+    BeforeFirstTimed,
+    /// a CPU with ordinary work has a real-time task
+    OrdinaryTimed,
+    /// an offline CPU has a real-time task
+    OfflineTimed,
+    /// an interval goes to a CPU once for each of its tasks
+    TimesByTasks,
+    /// times are 32 bits wide
+    TimesNarrow,
+    /// the stamp of a cut record counts
+    CutStampCounts,
+    /// times are added to what the table held
+    TimesAdded,
+    /// times from N on stay as they were
+    TimesPastKept,
+    /// on refusal 1 the times stay as they were
+    RefusalKeepsTimes,
+    /// on refusal 1 64 times are 0, however many are lent
+    RefusalClearsSome,
+    /// without a good first record the times stay as they were
+    NoFirstKeepsTimes,
+    /// without a good first record the log is wiped
+    NoFirstWipesLog,
+    /// without a good first record all CPUs are online
+    NoFirstPlugs,
+    /// an N is reported though its slice is out of range
+    NoFirstHasCpus,
+    /// a full slice of 100 is reported without a good first record
+    NoFirstHasSlice,
+    /// on refusal 1 the ending and the place are the recording's
+    RefusalReads,
+    /// times of another length pass
+    TimesLengthPasses,
+    /// tables for the recording's N pass
+    TablesOfCpusPass,
+    /// longer rows, counts and flags pass
+    LongRowsPass,
+    /// refused events are not counted
+    RefusedUncounted,
+    /// a refused event is the last
+    RefusedEnds,
+    /// the moves are those of the last event
+    MovesOfLast,
+    /// an event with moves is counted once
+    MovesOnce,
+    /// rows beyond N are emptied
+    RowsPastCleared,
+    /// counts beyond N become 0
+    CountsPastCleared,
+    /// flags beyond N become 0
+    FlagsPastCleared,
+    /// a stopped recording gives nothing
+    StoppedGivesNothing,
+    /// a cut recording gives nothing
+    CutGivesNothing,
+    /// the interval before every 64th event is lost
+    BatchLosesInterval,
+    /// every 64th event is lost
+    BatchLosesEvent,
+    /// the moves of the last 64 events alone are counted
+    BatchLosesMoves,
 }

@@ -91,6 +91,11 @@ impl Tables {
 
     /// "N is 0 or over 64, or a lent table has another length than above", denied.
     pub(crate) fn sizes_right(&self) -> bool {
+        self.cpus_right() && self.lengths_right(self.n)
+    }
+
+    /// Whether each table has the length that so many CPUs ask for.
+    pub(crate) fn lengths_right(&self, n: usize) -> bool {
         let columns = [
             self.state.len(),
             self.policy.len(),
@@ -99,11 +104,10 @@ impl Tables {
             self.slice.len(),
             self.mask.len(),
         ];
-        self.cpus_right()
-            && columns.iter().all(|&len| len == 512)
-            && self.rows.len() == 512 * self.n
-            && self.counts.len() == self.n
-            && self.flags.len() == self.n
+        columns.iter().all(|&len| len == 512)
+            && self.rows.len() == 512 * n
+            && self.counts.len() == n
+            && self.flags.len() == n
             && self.log.len() == LOG
             && self.record_sizes_right()
     }

@@ -1,8 +1,10 @@
 //! The library and the plain version side by side.
 
 use compare::call::Call;
+use plain::record::CPUS;
 use plain::tables::{ENTRY, TASKS};
-use plain::{Event, Made, Outcome, Record, Tables};
+use plain::{Ending, Event, Made, Outcome, Record, Report, Tables};
+use replay::replay_lent;
 
 /// Both on equal tables. The plain side has no tables if rows of 512 places and log entries of four cannot be made of
 /// them, and no record if the four tables of one have other lengths.
@@ -49,6 +51,30 @@ impl Pair {
         assert_eq!((outcome.answer, outcome.moves), (ours.answer, ours.moves));
         assert!(self.same(&before), "{e:?} leaves other tables");
         outcome
+    }
+
+    /// Replays a recording on both sides, in the tables as they are.
+    pub fn replay(&mut self, bytes: &[u8]) -> Report {
+        let before = self.ours.clone();
+        let mut times = [u64::MAX; CPUS];
+        let said = replay_lent(bytes, &mut self.ours, &mut times);
+        let ours = Report {
+            answer: said.answer,
+            ending: ending(said.ending),
+            place: said.place,
+            cpus: said.cpus,
+            full_slice: said.full_slice,
+            times,
+            moves: said.moves,
+            refused: said.refused,
+        };
+        let plain = match (&mut self.tables, &mut self.record) {
+            (Some(t), Some(record)) => plain::replay(bytes, t, record),
+            _ => Report::unplayed(1, Ending::Stopped),
+        };
+        assert_eq!(ours, plain);
+        assert!(self.same(&before), "the replay leaves other tables");
+        plain
     }
 
     fn ours(&mut self, call: Call) -> (Vec<u64>, u32) {
@@ -111,6 +137,15 @@ impl Pair {
         self.tables == tables(&self.ours)
             && self.record == record(&self.ours)
             && (whole || self.ours == *before)
+    }
+}
+
+fn ending(number: u8) -> Ending {
+    match number {
+        0 => Ending::Whole,
+        1 => Ending::Cut,
+        2 => Ending::Stopped,
+        _ => panic!("{number} is no ending"),
     }
 }
 
