@@ -81,7 +81,15 @@ mod tests {
     #[test]
     fn a_line_is_written_after_a_second_and_then_ten_times_a_second() {
         let at = Duration::from_millis;
-        let times = [at(0), at(999), at(1000), at(1099), at(1100), at(5000), at(5099)];
+        let times = [
+            at(0),
+            at(999),
+            at(1000),
+            at(1099),
+            at(1100),
+            at(5000),
+            at(5099),
+        ];
         let expected = [false, false, true, false, true, true, false];
         assert_eq!(written(true, &times), expected);
         assert_eq!(written(true, &times[..2]), expected[..2]);

@@ -383,7 +383,9 @@ fn a_long_replay_says_how_far_it_is() {
     let night = recorded(&format!("cpus 1\n{}", "tick 0\n".repeat(10_000)));
     let (output, shown) = fed_until_told(&night);
     assert_eq!(output.stdout, replayed(&night).out.as_bytes());
-    let rest = shown.strip_prefix("\r\x1b[Kqoriwesh: file 1 of 1, ").unwrap();
+    let rest = shown
+        .strip_prefix("\r\x1b[Kqoriwesh: file 1 of 1, ")
+        .unwrap();
     let (count, rest) = rest.split_once(' ').unwrap();
     assert!((1..=night.len()).contains(&count.parse().unwrap()));
     assert!(rest.starts_with("bytes: <stdin>\r\x1b[K"), "{rest:?}");
