@@ -3,7 +3,8 @@
  * Qoriwesh: where SCHED_FIFO and SCHED_RR tasks run on 1 to 64 CPUs.
  *
  * The functions are proved: what each answers and what it leaves in every
- * table is stated in crates/abi and crates/replay, for all tables and all numbers.
+ * table is stated in crates/abi, abifresh and replay, for all tables and all
+ * numbers.
  *
  * Nothing is allocated, locked or kept between calls. A caller lends the
  * tables; one call at a time may use them. Each pointer must be valid for its
@@ -251,7 +252,7 @@ uint8_t qoriwesh_find(
 
 /*
  * Replays a recording on a fresh machine, in tables for 64 CPUs: rows 64*512
- * numbers, counts and flags 64. It is in an archive of its own, libreplay.a.
+ * numbers, counts and flags 64.
  *
  * A record is a byte of kind and a body whose length the kind fixes; numbers are
  * low byte first. First one of

@@ -6,8 +6,8 @@ fn main() {
     let archives = root.join("target/staticlib");
     println!(
         "cargo:rerun-if-changed={}",
-        archives.join("libabi.a").display()
+        archives.join("libqoriwesh.a").display()
     );
     println!("cargo:rustc-link-search=native={}", archives.display());
-    println!("cargo:rustc-link-lib=static=abi");
+    println!("cargo:rustc-link-lib=static=qoriwesh");
 }

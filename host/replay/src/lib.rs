@@ -1,5 +1,4 @@
-//! The replay of a recording on a fresh machine: include/qoriwesh.h's entry for Rust. It has an archive of its own,
-//! libreplay.a.
+//! The replay of a recording on a fresh machine: include/qoriwesh.h's entry for Rust.
 
 use binding::{entry, Tables, CPUS, TASKS};
 

@@ -1,4 +1,4 @@
--- `abi::qoriwesh_make_fresh` meets its contract.
+-- `abifresh::qoriwesh_make_fresh` meets its contract.
 -- Assumes nothing.
 use mathlib.Core.Path.{refl, sym, _∙_}
 use borrow.Author.Tests.{not-true, not-false}
@@ -8,9 +8,9 @@ use Rattle.cpupri.specs.Record.{lentRecord}
 use Rattle.lenttables.specs.Lent.{lent, nowTables}
 use Rattle.rules.specs.Tables.{Tables}
 use Rattle.lentrecord.proofs.Entries.{made-unfit, made-fit}
-use Rattle.abi.proofs.qoriwesh_make_fresh.Statement.{statement}
-use Rattle.abi.proofs.qoriwesh_make_fresh.Tie as tie
-use Rattle.abi.proofs.qoriwesh_make_fresh.Proof.Paths as at
+use Rattle.abifresh.proofs.qoriwesh_make_fresh.Statement.{statement}
+use Rattle.abifresh.proofs.qoriwesh_make_fresh.Tie as tie
+use Rattle.abifresh.proofs.qoriwesh_make_fresh.Proof.Paths as at
 mod Paths
 
 -- what the caller lent

@@ -1,8 +1,8 @@
--- The places of `abi::qoriwesh_make_fresh_default` by name, and its needs that are plumbing. Written by `scripts/paths abi`: not to be edited.
+-- The places of `abifresh::qoriwesh_make_fresh_default` by name, and its needs that are plumbing. Written by `scripts/paths abifresh`: not to be edited.
 -- Assumes nothing.
 use borrow.Author.Needs.{needs}
-use Rattle.abi.proofs.qoriwesh_make_fresh_default.Statement.{statement}
-use Rattle.abi.proofs.qoriwesh_make_fresh_default.Tie as tie
+use Rattle.abifresh.proofs.qoriwesh_make_fresh_default.Statement.{statement}
+use Rattle.abifresh.proofs.qoriwesh_make_fresh_default.Tie as tie
 
 abbrev typeOf : {A : Type 0} → A → Type 0
 typeOf {A} x = A

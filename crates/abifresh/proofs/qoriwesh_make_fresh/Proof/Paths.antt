@@ -1,10 +1,10 @@
--- The places of `abi::qoriwesh_make_fresh` by name, and its needs that are plumbing. Written by `scripts/paths abi`: not to be edited.
+-- The places of `abifresh::qoriwesh_make_fresh` by name, and its needs that are plumbing. Written by `scripts/paths abifresh`: not to be edited.
 -- Assumes nothing.
 use borrow.Author.Needs.{needs}
 use mathlib.Core.List.{List}
 use Prim.Native.Nat.{ℕ}
-use Rattle.abi.proofs.qoriwesh_make_fresh.Statement.{statement}
-use Rattle.abi.proofs.qoriwesh_make_fresh.Tie as tie
+use Rattle.abifresh.proofs.qoriwesh_make_fresh.Statement.{statement}
+use Rattle.abifresh.proofs.qoriwesh_make_fresh.Tie as tie
 
 abbrev typeOf : {A : Type 0} → A → Type 0
 typeOf {A} x = A
