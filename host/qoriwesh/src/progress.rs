@@ -61,14 +61,13 @@ mod tests {
 
     /// When a line is written, of those who ask at these times after the beginning.
     fn written(terminal: bool, times: &[Duration]) -> Vec<bool> {
-        let next = Instant::now();
-        let written = false;
+        let begin = Instant::now();
         let mut progress = Progress {
             terminal,
-            next,
-            written,
+            next: begin + LONG,
+            written: false,
         };
-        let at = |time: &Duration| progress.line(next - LONG + *time, || "half".to_string());
+        let at = |time: &Duration| progress.line(begin + *time, || "half".to_string());
         let lines: Vec<Option<String>> = times.iter().map(at).collect();
         for line in lines.iter().flatten() {
             assert_eq!(line, "\r\x1b[Khalf");
