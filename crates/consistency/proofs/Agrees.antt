@@ -1,28 +1,27 @@
 -- What the consistency test means: it passes exactly if masks, counts, words and levels say the same and the levels are those of n CPUs.
 -- Assumes nothing.
 use mathlib.Core.Path.{_≡_, refl, sym, ap, ap₂, _∙_, subst}
-use mathlib.Core.Bool.{Bool, true, false, cond, not, _&&_, _||_, Bool·beq, false≢true}
+use mathlib.Core.Bool.{Bool, true, false, cond, not, _&&_, _||_, false≢true}
 use mathlib.Core.Logic.{_≢_, _⊎_, inl, inr}
-use mathlib.Core.List.{List, [], _∷_, _++_}
+use mathlib.Core.List.{List, [], _∷_}
 use Prim.Native.Nat.{ℕ, zero, suc, _+_, _/_, _%_, _^_, _≤_, _<_, suc-le-suc}
 use native.Mathlib.Nat.{not-suc-le-zero, le-of-suc-le-suc, zero-lt-suc, add-suc, suc-add, zero-add, add-zero}
 use native.Mathlib.Omega.{arith}
 use lib.Dec.{eqb, ltb}
-use lib.ListN.{length, getD, set, take, List·getD-eq-default}
-use lib.Seq.{ext-getD, take-suc, length-take-le}
+use lib.ListN.{length, getD, List·getD-eq-default}
+use lib.Seq.{ext-getD}
 use borrow.Author.Tests.{eqb-true, eqb-false, eq-eqb, ne-eqb, ltb-true, ltb-false, lt-ltb, le-ltb, not-true}
-use Rattle.bits.specs.Bit.{bit, withBit, putBit, weight}
-use Rattle.bits.proofs.Word.{word-ext, bit-above, put-same}
+use Rattle.bits.specs.Bit.{bit}
+use Rattle.bits.proofs.Word.{word-ext}
 use Rattle.bits.proofs.Tests.{and-left, and-right, and-both}
-use Rattle.bits.proofs.Packed.{bit-packed, packed-lt, packed-snoc, weight-packed}
+use Rattle.bits.proofs.Packed.{bit-packed, packed-lt}
 use Rattle.levels.specs.Level.{levelCount, cpuPlaces, unused, invalid, known}
-use Rattle.levels.specs.Record.{maskAt, countAt, masksOf, countsOf, active, wordsOf, recordOf, Whole}
-use Rattle.consistency.specs.Consistent.{levelFits, fitFrom, levelsFit, same, agrees, consistent, enlisted, Sized, Consistent}
+use Rattle.levels.specs.Record.{maskAt, masksOf, countsOf, active, wordsOf, recordOf, Whole}
+use Rattle.consistency.specs.Consistent.{levelFits, fitFrom, levelsFit, same, agrees, consistent, Sized, Consistent}
 use Rattle.levels.specs.declared.record.Record.{Record}
-use Rattle.levels.proofs.Table.{table-cong, table-set}
 use Rattle.levels.proofs.Moved.{length-masks, length-counts, mask-at, count-at}
 use Rattle.levels.proofs.Whole.{record-ext, level-known}
-use Rattle.consistency.proofs.Words.{words-bit, words-ext, word-one-lt}
+use Rattle.consistency.proofs.Words.{words-bit, words-ext}
 
 -- ---- `same`
 
@@ -142,41 +141,7 @@ fits-known n c l e = go (ltb c n) refl
         one (inr k) = level-known l (k .0)
     go false t = ap known (fits-above n c l (ltb-false c n t) e)
 
--- ---- the masks of a longer and longer list of levels
-
--- a level that the new CPU is not at keeps its mask
-snoc-kept : (xs : List ℕ) (l k : ℕ) → (l ≡ k → ⊥) → maskAt (xs ++ (l ∷ [])) k ≡ maskAt xs k
-unfolding maskAt
-snoc-kept xs l k d =
-    let e : eqb l k ≡ false = ne-eqb l k d in
-    let free : bit (maskAt xs k) (length xs) ≡ false = bit-above (length xs) (maskAt xs k) (length xs) (packed-lt (λ (x : ℕ). eqb x k) xs) (omega arith) in
-    packed-snoc (λ (x : ℕ). eqb x k) xs l ∙ put-same (eqb l k) (maskAt xs k) (length xs) (free ∙ sym e)
-
-pub masks-snoc : (xs : List ℕ) (l : ℕ) → masksOf (xs ++ (l ∷ [])) ≡ enlisted (masksOf xs) (length xs) l
-unfolding masksOf maskAt enlisted
-masks-snoc xs l = go (ltb l levelCount) refl
-  where
-    go : (b : Bool) → ltb l levelCount ≡ b → masksOf (xs ++ (l ∷ [])) ≡ cond b (set (masksOf xs) l (withBit (getD (masksOf xs) l 0) (length xs))) (masksOf xs)
-    go true e =
-        let h : l < levelCount = ltb-true l levelCount e in
-        table-set (maskAt xs) (maskAt (xs ++ (l ∷ []))) levelCount l h (λ k hk d. snoc-kept xs l k (λ e. d (sym e)))
-        ∙ ap (set (masksOf xs) l)
-        (packed-snoc (λ (x : ℕ). eqb x l) xs l ∙ ap₂ (λ (b : Bool) (m : ℕ). putBit b m (length xs)) (eq-eqb l l refl) (sym (mask-at xs l h)))
-    go false e =
-        let h : levelCount ≤ l = ltb-false l levelCount e in
-        table-cong (maskAt xs) (maskAt (xs ++ (l ∷ []))) levelCount (λ k hk. snoc-kept xs l k (λ e. omega arith))
-
-pub masks-next : (xs : List ℕ) (c : ℕ) → c < length xs → masksOf (take (suc c) xs) ≡ enlisted (masksOf (take c xs)) c (getD xs c 0)
-masks-next xs c h =
-    ap masksOf (take-suc xs c 0 h) ∙ masks-snoc (take c xs) (getD xs c 0)
-    ∙ ap (λ (k : ℕ). enlisted (masksOf (take c xs)) k (getD xs c 0)) (length-take-le c xs (omega arith))
-
 -- ---- the meaning
-
--- a level's count is the weight of its mask
-pub weight-mask : (xs : List ℕ) (l : ℕ) → length xs ≡ cpuPlaces → weight cpuPlaces (maskAt xs l) ≡ countAt xs l
-unfolding maskAt countAt
-weight-mask xs l len = ap (λ (k : ℕ). weight k (maskAt xs l)) (sym len) ∙ weight-packed (λ (x : ℕ). eqb x l) xs
 
 pub mask-bit : (xs : List ℕ) (l c : ℕ) → c < length xs → bit (maskAt xs l) c ≡ eqb (getD xs c 0) l
 unfolding maskAt
@@ -254,84 +219,6 @@ module _ (n : ℕ) (r : Record) (sized : Sized r) where
           go : (b : Bool) → ltb l levelCount ≡ b → bit (getD (r .words) (l / 64) 0) (l % 64) ≡ active (getD (r .counts) l 0)
           go true e = k .words l (ltb-true l levelCount e)
           go false e = let hl : levelCount ≤ l = ltb-false l levelCount e in k .clear l hl h ∙ sym (past (r .counts) l (sized .counts) hl)
-
-      words : r .words ≡ wordsOf (countsOf (r .levels))
-      words = words-ext (r .counts) (r .words) (sized .words) (sized .counts) (sized .word 0) (sized .word 1) bits ∙ ap wordsOf counts
-
--- ---- the test as the code takes it, a level at a time
-
-abbrev pub levelTest : Record → List ℕ → ℕ → Bool
-levelTest r masks l =
-    eqb (getD (r .masks) l 0) (getD masks l 0)
-    && (eqb (getD (r .counts) l 0) (weight 64 (getD (r .masks) l 0)) && Bool·beq (bit (getD (r .words) (l / 64) 0) (l % 64)) (active (getD (r .counts) l 0)))
-
-beq-true : (a b : Bool) → Bool·beq a b ≡ true → a ≡ b
-beq-true true true e = refl
-beq-true true false e = absurd (false≢true e)
-beq-true false true e = absurd (false≢true e)
-beq-true false false e = refl
-
-beq-refl : (a : Bool) → Bool·beq a a ≡ true
-beq-refl true = refl
-beq-refl false = refl
-
-module _ (r : Record) (sized : Sized r) where
-  -- where the parts agree each level's test passes, and no bit is set past the last level
-  pub test-passes : agrees r ≡ true → (l : ℕ) → l < levelCount → levelTest r (masksOf (r .levels)) l ≡ true
-  test-passes ok l h =
-      and-both _ _ (eq-eqb _ _ mask)
-      (and-both _ _
-      (eq-eqb _ _ (ap (λ (cs : List ℕ). getD cs l 0) (agrees-counts r ok) ∙ count-at (r .levels) l h ∙ sym (weight-mask (r .levels) l (sized .levels)) ∙ ap (weight 64) (sym (mask ∙ mask-at (r .levels) l h))))
-      (ap (λ (b : Bool). Bool·beq b (active (getD (r .counts) l 0))) word ∙ beq-refl (active (getD (r .counts) l 0))))
-    where
-      mask : getD (r .masks) l 0 ≡ getD (masksOf (r .levels)) l 0
-      mask = ap (λ (ms : List ℕ). getD ms l 0) (agrees-masks r ok)
-
-      word : bit (getD (r .words) (l / 64) 0) (l % 64) ≡ active (getD (r .counts) l 0)
-      word =
-          ap (λ (ws : List ℕ). bit (getD ws (l / 64) 0) (l % 64)) (agrees-words r ok ∙ ap wordsOf (sym (agrees-counts r ok)))
-          ∙ words-bit (r .counts) l (omega arith)
-
-  pub top-clear : agrees r ≡ true → getD (r .words) 1 0 < 2 ^ 38
-  top-clear ok =
-      subst (λ (ws : List ℕ). getD ws 1 0 < 2 ^ 38) (ap wordsOf (agrees-counts r ok) ∙ sym (agrees-words r ok))
-      (word-one-lt (r .counts) (sized .counts))
-
-  -- and the other way round
-  pub tests-agree : ((l : ℕ) → l < levelCount → levelTest r (masksOf (r .levels)) l ≡ true) → getD (r .words) 1 0 < 2 ^ 38 → agrees r ≡ true
-  tests-agree tests top = agrees-of r masks counts words
-    where
-      mask-test : (l : ℕ) → Bool
-      mask-test l = eqb (getD (r .masks) l 0) (getD (masksOf (r .levels)) l 0)
-
-      count-test : (l : ℕ) → Bool
-      count-test l = eqb (getD (r .counts) l 0) (weight 64 (getD (r .masks) l 0))
-
-      word-test : (l : ℕ) → Bool
-      word-test l = Bool·beq (bit (getD (r .words) (l / 64) 0) (l % 64)) (active (getD (r .counts) l 0))
-
-      mask : (l : ℕ) → l < levelCount → getD (r .masks) l 0 ≡ getD (masksOf (r .levels)) l 0
-      mask l h = eqb-true _ _ (and-left (mask-test l) (count-test l && word-test l) (tests l h))
-
-      masks : r .masks ≡ masksOf (r .levels)
-      masks = ext-getD 0 (r .masks) (masksOf (r .levels)) (sized .masks ∙ sym (length-masks (r .levels))) (λ l h. mask l (omega (arith, sized .masks)))
-
-      counts : r .counts ≡ countsOf (r .levels)
-      counts = ext-getD 0 (r .counts) (countsOf (r .levels)) (sized .counts ∙ sym (length-counts (r .levels))) (λ l h.
-          let hl : l < levelCount = omega (arith, sized .counts) in
-          eqb-true _ _ (and-left (count-test l) (word-test l) (and-right (mask-test l) (count-test l && word-test l) (tests l hl)))
-          ∙ ap (weight 64) (mask l hl ∙ mask-at (r .levels) l hl) ∙ weight-mask (r .levels) l (sized .levels) ∙ sym (count-at (r .levels) l hl))
-
-      bits : (l : ℕ) → l < 128 → bit (getD (r .words) (l / 64) 0) (l % 64) ≡ active (getD (r .counts) l 0)
-      bits l h = go (ltb l levelCount) refl
-        where
-          go : (b : Bool) → ltb l levelCount ≡ b → bit (getD (r .words) (l / 64) 0) (l % 64) ≡ active (getD (r .counts) l 0)
-          go true e = beq-true _ _ (and-right (count-test l) (word-test l) (and-right (mask-test l) (count-test l && word-test l) (tests l (ltb-true l levelCount e))))
-          go false e =
-              let hl : levelCount ≤ l = ltb-false l levelCount e in
-              let quotient : l / 64 ≡ 1 = omega arith in
-              ap (λ (q : ℕ). bit (getD (r .words) q 0) (l % 64)) quotient
-              ∙ bit-above 38 (getD (r .words) 1 0) (l % 64) top (omega arith) ∙ sym (past (r .counts) l (sized .counts) hl)
 
       words : r .words ≡ wordsOf (countsOf (r .levels))
       words = words-ext (r .counts) (r .words) (sized .words) (sized .counts) (sized .word 0) (sized .word 1) bits ∙ ap wordsOf counts

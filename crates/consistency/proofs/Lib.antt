@@ -1,3 +1,5 @@
 -- The laws of a record that is consistent in itself.
 pub mod Words
 pub mod Agrees
+pub mod Compared
+pub mod Gathered

@@ -51,11 +51,6 @@ module _ (cs : List ℕ) where
       let size : length (drop 64 cs) ≤ 38 = omega (arith, length-drop 64 cs) in
       lt-of-lt-of-le (packed-lt active (drop 64 cs)) (pow-mono size)
 
-  -- word 1 ends with the last level
-  pub word-one-lt : length cs ≡ levelCount → getD (wordsOf cs) 1 0 < 2 ^ 38
-  unfolding wordsOf
-  word-one-lt len = high-lt len
-
   -- two words that have those bits are those words
   pub words-ext : (ws : List ℕ) → length ws ≡ 2 → length cs ≡ levelCount → getD ws 0 0 < 2 ^ 64 → getD ws 1 0 < 2 ^ 64
       → ((l : ℕ) → l < 128 → bit (getD ws (l / 64) 0) (l % 64) ≡ active (getD cs l 0)) → ws ≡ wordsOf cs

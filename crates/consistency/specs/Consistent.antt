@@ -4,7 +4,7 @@ use mathlib.Core.Path.{_≡_}
 use mathlib.Core.Bool.{Bool, true, false, cond, not, _&&_, _||_}
 use mathlib.Core.Logic.{_≢_, _⊎_}
 use mathlib.Core.List.{List, [], _∷_}
-use Prim.Native.Nat.{ℕ, suc, _/_, _%_, _^_, _≤_, _<_}
+use Prim.Native.Nat.{ℕ, zero, suc, _/_, _%_, _^_, _≤_, _<_}
 use lib.Dec.{eqb, ltb}
 use lib.ListN.{length, getD, set}
 use Rattle.bits.specs.Bit.{bit, withBit}
@@ -30,6 +30,12 @@ same [] [] = true
 same [] (y ∷ ys) = false
 same (x ∷ xs) [] = false
 same (x ∷ xs) (y ∷ ys) = eqb x y && same xs ys
+
+-- the levels with INVALID from place n on
+unfoldable pub invalidFrom : ℕ → List ℕ → List ℕ
+invalidFrom n [] = []
+invalidFrom zero (l ∷ ls) = invalid ∷ invalidFrom zero ls
+invalidFrom (suc n) (l ∷ ls) = l ∷ invalidFrom n ls
 
 -- the masks with CPU c in its level's one; a level that has no mask adds nothing
 unfoldable pub enlisted : List ℕ → ℕ → ℕ → List ℕ

@@ -1,21 +1,22 @@
-// Whether a record is consistent in itself: one pass over the CPUs' levels, which gathers the masks
-// that they determine, and one over the levels, which compares.
+// Whether a record is consistent in itself: one pass over the CPUs gathers the record that their levels
+// determine, and then its four tables are compared with the lent ones.
 ghost use mathlib.Core.Path.{_≡_};
-ghost use mathlib.Core.Bool.{true, _&&_, Bool·beq};
-ghost use mathlib.Core.List.{List, []};
-ghost use Prim.Native.Nat.{ℕ, _<_};
-ghost use lib.Dec.{eqb};
-ghost use lib.ListN.{length};
-ghost use Rattle.bits.specs.Bit.{bit, weight};
-ghost use Rattle.bits.specs.Moments.{old, new};
-ghost use Rattle.levels.specs.Level.{cpuPlaces};
-ghost use Rattle.levels.specs.Record.{lentRecord, masksOf, active};
-ghost use Rattle.levels.specs.Lent.{nowRecord, oldRecord};
-ghost use Rattle.consistency.specs.Consistent.{levelFits, levelsFit, enlisted, agrees, consistent, Sized};
+ghost use mathlib.Core.Bool.{true};
+ghost use Prim.Native.Nat.{_<_, min};
+ghost use lib.ListN.{length, getD, set};
+ghost use Rattle.bits.specs.Moments.{old};
+ghost use Rattle.levels.specs.Level.{cpuPlaces, invalid, known};
+ghost use Rattle.levels.specs.Record.{recordOf, Whole};
+ghost use Rattle.levels.specs.Lent.{nowRecord, oldRecord, newRecord};
+ghost use Rattle.consistency.specs.Consistent.{levelFits, levelsFit, invalidFrom, consistent, Sized};
+use compare::same_u8;
+use compare::same_u64;
 use levels::level::Level;
 use levels::record::CPUS;
 use levels::record::LEVELS;
 use levels::record::WORDS;
+
+mod compare;
 
 // Whether the masks, counts, words and levels of a record say the same, for n CPUs.
 pub fn is_consistent<'a>(
@@ -28,31 +29,61 @@ pub fn is_consistent<'a>(
     requires { ⌜ Sized (nowRecord masks counts words levels) ⌝ }
     ensures { λ b. ⌜ b ≡ consistent n (oldRecord masks counts words levels) ⌝ }
 {
-    let mut right = [0; LEVELS];
-    if gather(n, levels, &mut right) {
-        parts_agree(masks, counts, words, &right)
-    } else {
-        false
+    let invalid = Level::INVALID;
+    let mut right_masks = [0; LEVELS];
+    let mut right_counts = [0; LEVELS];
+    let mut right_words = [0; WORDS];
+    let mut right_levels = [invalid.number; CPUS];
+    if !gather(
+        n,
+        levels,
+        &mut right_masks,
+        &mut right_counts,
+        &mut right_words,
+        &mut right_levels,
+    ) {
+        return false;
     }
+    same_u64(masks, &right_masks)
+        & same_u8(counts, &right_counts)
+        & same_u64(words, &right_words)
+        & same_u8(levels, &right_levels)
 }
 
-// Whether all levels fit; and puts each CPU into the mask of its level, up to the first that does not fit.
-fn gather(n: usize, levels: &[u8; CPUS], right: &mut [u64; LEVELS]) -> bool
-    requires { ⌜ length (now levels) ≡ cpuPlaces ⌝ }
-    requires { ⌜ now right ≡ masksOf [] ⌝ }
-    ensures { λ b. ⌜ b ≡ levelsFit n (old levels) ⌝ }
-    ensures { λ b. ⌜ (levelsFit n (old levels) ≡ true → new right ≡ masksOf (old levels)) ⌝ }
+// Whether the levels of the CPUs below n fit. If they do, a record in which every place holds INVALID becomes that
+// of these CPUs at their levels.
+fn gather(
+    n: usize,
+    from: &[u8; CPUS],
+    masks: &mut [u64; LEVELS],
+    counts: &mut [u8; LEVELS],
+    words: &mut [u64; WORDS],
+    levels: &mut [u8; CPUS],
+) -> bool
+    requires { ⌜ length (now from) ≡ cpuPlaces ⌝ }
+    requires { ⌜ Whole (nowRecord masks counts words levels) ⌝ }
+    requires { ⌜ now levels ≡ invalidFrom 0 (now from) ⌝ }
+    ensures { λ b. ⌜ b ≡ levelsFit n (invalidFrom n (old from)) ⌝ }
+    ensures { λ b. ⌜ (b ≡ true → newRecord masks counts words levels ≡ recordOf (invalidFrom n (old from))) ⌝ }
 {
+    let end = places(n);
     let mut cpu = 0;
-    while cpu < CPUS {
-        let level = levels[cpu];
+    while cpu < end {
+        let level = from[cpu];
         if !level_fits(n, cpu, level) {
             return false;
         }
-        join(right, cpu, level);
+        join(masks, counts, words, levels, cpu, level);
         cpu += 1;
     }
     true
+}
+
+// How many of a record's places are below n.
+fn places(n: usize) -> usize
+    ensures { λ r. ⌜ r ≡ min n cpuPlaces ⌝ }
+{
+    if n < CPUS { n } else { CPUS }
 }
 
 // Whether CPU place `cpu` of a machine of n CPUs may hold this level.
@@ -61,53 +92,35 @@ fn level_fits(n: usize, cpu: usize, level: u8) -> bool
 {
     let invalid = Level::INVALID;
     let unused = Level::UNUSED;
-    if cpu < n {
-        (level == invalid.number) | (((level as usize) < LEVELS) & (level != unused.number))
-    } else {
-        level == invalid.number
+    if level == invalid.number {
+        return true;
     }
+    (cpu < n) & ((level as usize) < LEVELS) & (level != unused.number)
 }
 
-// Puts a CPU into the mask of its level; INVALID has none.
-fn join(masks: &mut [u64; LEVELS], cpu: usize, level: u8)
+// A CPU that is at INVALID goes to its level: into the level's mask, count and bit. INVALID has none of them. What
+// `set_level` does too, for a CPU that may be at another level before.
+fn join(
+    masks: &mut [u64; LEVELS],
+    counts: &mut [u8; LEVELS],
+    words: &mut [u64; WORDS],
+    levels: &mut [u8; CPUS],
+    cpu: usize,
+    level: u8,
+)
+    requires { ⌜ Whole (nowRecord masks counts words levels) ⌝ }
     requires { ⌜ cpu < cpuPlaces ⌝ }
-    ensures { λ u. ⌜ new masks ≡ enlisted (old masks) cpu level ⌝ }
+    requires { ⌜ getD (now levels) cpu 0 ≡ invalid ⌝ }
+    requires { ⌜ known level ≡ true ⌝ }
+    ensures { λ u. ⌜ newRecord masks counts words levels ≡ recordOf (set (old levels) cpu level) ⌝ }
 {
+    let invalid = Level::INVALID;
+    if level == invalid.number {
+        return;
+    }
     let l = level as usize;
-    if l < LEVELS {
-        masks[l] = bits::set_bit(masks[l], cpu);
-    }
-}
-
-// Whether masks, counts and words are what levels determine whose masks are `right`.
-fn parts_agree(
-    masks: &[u64; LEVELS],
-    counts: &[u8; LEVELS],
-    words: &[u64; WORDS],
-    right: &[u64; LEVELS],
-) -> bool
-    ensures { λ b. ⌜ ((levels : List ℕ) → let r = lentRecord (old masks) (old counts) (old words) levels in
-        Sized r → old right ≡ masksOf levels → b ≡ agrees r) ⌝ }
-{
-    let mut level = 0;
-    while level < LEVELS {
-        let word = words[level / 64];
-        if !level_agrees(right[level], masks[level], counts[level], word, level % 64) {
-            return false;
-        }
-        level += 1;
-    }
-    // bits 102 to 127
-    words[1] >> 38 == 0
-}
-
-// Whether one level's mask is the right one, its count counts the mask, and its bit is set exactly
-// if the count is not 0.
-fn level_agrees(right: u64, mask: u64, count: u8, word: u64, place: usize) -> bool
-    requires { ⌜ place < 64 ⌝ }
-    ensures { λ b. ⌜ b ≡ (eqb mask right && (eqb count (weight 64 mask) && Bool·beq (bit word place) (active count))) ⌝ }
-{
-    (mask == right)
-        & ((count as u32) == bits::count_bits(mask))
-        & (bits::test_bit(word, place) == (count != 0))
+    masks[l] = bits::set_bit(masks[l], cpu);
+    counts[l] = counts[l] + 1;
+    words[l / 64] = bits::set_bit(words[l / 64], l % 64);
+    levels[cpu] = level;
 }

@@ -1,36 +1,41 @@
--- `consistency::gather` meets its contract. The loop's invariant: the levels passed fit, and the masks are theirs.
+-- `consistency::gather` meets its contract. The loop's invariant: the levels passed fit, and the record is whole, with these CPUs at their
+-- levels and the others at INVALID.
 -- Assumes nothing.
 use borrow.Author.Needs.{needs}
-use mathlib.Core.Path.{_≡_, sym, ap, _∙_}
-use mathlib.Core.Bool.{true, false, false≢true}
-use mathlib.Core.List.{List}
-use Prim.Native.Nat.{ℕ, _-_, _≤_, _<_}
-use native.Mathlib.Numerals.{add-one}
-use native.Mathlib.Omega.{arith}
-use lib.ListN.{length, getD, take}
-use lib.Seq.{take-all}
-use borrow.Author.Count.{below-more}
+use borrow.Author.Count.{below-none, below-more}
 use borrow.Author.Tests.{not-true, not-false}
+use mathlib.Core.Path.{_≡_, sym, _∙_}
+use mathlib.Core.Bool.{true, false, false≢true}
+use Prim.Native.Nat.{ℕ, _-_, _≤_, _<_}
+use native.Mathlib.Omega.{arith}
+use lib.ListN.{length, getD}
 use Rattle.bits.proofs.Tests.{fails}
-use Rattle.levels.specs.Record.{masksOf}
-use Rattle.consistency.specs.Consistent.{levelFits, levelsFit, enlisted}
-use Rattle.consistency.proofs.Agrees.{fit-at, fit-all, masks-next}
+use Rattle.levels.specs.Record.{lentRecord, Whole}
+use Rattle.consistency.specs.Consistent.{levelFits, levelsFit, invalidFrom}
+use Rattle.consistency.proofs.Agrees.{fits-known}
+use Rattle.consistency.proofs.Gathered.{below-fit-all, below-fit-at, gather-next, gather-more, gather-all}
 use Rattle.consistency.proofs.gather.Statement.{statement}
 use Rattle.consistency.proofs.gather.Tie as tie
 use Rattle.consistency.proofs.gather.Proof.Paths as at
 mod Paths
 
-none : {k : ℕ} → k < 0 → ⊥
-none h = omega arith
-
 abbrev Inv-loop : tie.InvT-loop
-Inv-loop n levels right₀ cpu₀ right cpu = (cpu ≤ 64) × ((k : ℕ) → k < cpu → levelFits n k (getD levels k 0) ≡ true) × (right ≡ masksOf (take cpu levels))
+Inv-loop n from masks₀ counts₀ words₀ levels₀ end cpu₀ masks counts words levels cpu =
+    (cpu ≤ end) × ((k : ℕ) → k < cpu → levelFits n k (getD from k 0) ≡ true) × Whole (lentRecord masks counts words levels) × (levels ≡ invalidFrom cpu from)
 
 abbrev μ-loop : tie.MeasureT-loop
-μ-loop n levels right₀ cpu₀ right cpu = 64 - cpu
+μ-loop n from masks₀ counts₀ words₀ levels₀ end cpu₀ masks counts words levels cpu = end - cpu
+
+-- the level that is looked at, where it fits
+module _ (c : tie.Else1 Inv-loop μ-loop) where
+  good : let k = at.else1 c in levelFits (k .args .n) (k .loop .cpu) (getD (k .args .from .now) (k .loop .cpu) 0) ≡ true
+  good = let k = at.else1 c in sym (k .level-fits .ensures) ∙ not-false (k .level-fits .result) (k .if1 .left)
+
+places-requires : tie.Need-places-requires Inv-loop μ-loop
+places-requires c κs = search needs
 
 loop-holds : tie.Need-loop-holds Inv-loop μ-loop
-loop-holds c = (omega arith, (λ k h. absurd (none h)), at.loop-holds c .pre .1)
+loop-holds c = let k = at.loop-holds c in (omega arith, below-none _, k .pre .1 .0, k .pre .1 .1)
 
 element-copy-out-level : tie.Need-element-copy-out-level Inv-loop μ-loop
 element-copy-out-level c = omega arith
@@ -41,16 +46,24 @@ level-fits-requires c κs = search needs
 returns : tie.Need-returns Inv-loop μ-loop
 returns c =
     let k = at.returns c in
-    let levels = k .args .levels .now in
+    let from = k .args .from .now in
     let cpu = k .loop .cpu in
     let n = k .args .n in
-    let size : length levels ≡ 64 = k .pre .0 in
-    let bad : levelFits n cpu (getD levels cpu 0) ≡ false = sym (k .level-fits .ensures) ∙ not-true (k .level-fits .result) (k .if1 .taken) in
-    let unfit : levelsFit n levels ≡ false = fails (levelsFit n levels) (λ e. false≢true (sym bad ∙ fit-at n levels e cpu (omega arith))) in
-    (sym unfit, (λ e. absurd (false≢true (sym unfit ∙ e))))
+    let size : length from ≡ 64 = k .pre .0 in
+    let bad : levelFits n cpu (getD from cpu 0) ≡ false = sym (k .level-fits .ensures) ∙ not-true (k .level-fits .result) (k .if1 .taken) in
+    let unfit : levelsFit n (invalidFrom n from) ≡ false =
+    fails (levelsFit n (invalidFrom n from)) (λ e. false≢true (sym bad ∙ below-fit-at n from e cpu (omega arith) (omega arith))) in
+    (sym unfit, (λ e. absurd (false≢true e)))
 
 join-requires : tie.Need-join-requires Inv-loop μ-loop
-join-requires c κs = omega arith
+join-requires c κs =
+    let k = at.join-requires c in
+    let from = k .args .from .now in
+    let cpu = k .loop .cpu in
+    let size : length from ≡ 64 = k .pre .0 in (
+      k .loop .inv .2,
+      (omega arith, (gather-next cpu from (omega arith) (k .loop .inv .3), fits-known (k .args .n) cpu (getD from cpu 0) (good (k .else1)))),
+    )
 
 add-cpu : tie.Need-add-cpu Inv-loop μ-loop
 add-cpu c = omega arith
@@ -60,28 +73,23 @@ loop-less c = omega arith
 
 loop-again : tie.Need-loop-again Inv-loop μ-loop
 loop-again c =
-    let p = at.loop-again c in
-    let levels = p .args .levels .now in
-    let before = p .loop in
-    let n = p .args .n in
-    let size : length levels ≡ 64 = p .pre .0 in
-    let good : levelFits n (before .cpu) (getD levels (before .cpu) 0) ≡ true =
-    sym (p .level-fits .ensures) ∙ not-false (p .level-fits .result) (p .if1 .left) in (
-      omega arith,
-      below-more _ _ (before .inv .1) good,
-      p .join .ensures ∙ ap (λ (ms : List ℕ). enlisted ms (before .cpu) (getD levels (before .cpu) 0)) (before .inv .2)
-          ∙ sym (masks-next levels (before .cpu) (omega arith)) ∙ ap (λ (k : ℕ). masksOf (take k levels)) (sym (add-one (before .cpu))),
-    )
+    let k = at.loop-again c in
+    let from = k .args .from .now in
+    let l = k .loop in
+    let size : length from ≡ 64 = k .pre .0 in
+    let fits = good (k .else1) in
+    let more = gather-more (k .args .n) (l .cpu) from (omega arith) fits (l .inv .2) (l .inv .3) (k .join .ensures) in
+    (omega arith, below-more _ _ (l .inv .1) fits, more .0, more .1)
 
 returns-2 : tie.Need-returns-2 Inv-loop μ-loop
 returns-2 c =
-    let p = at.returns-2 c in
-    let levels = p .args .levels .now in
-    let n = p .args .n in
-    let size : length levels ≡ 64 = p .pre .0 in
-    let all : p .loop .cpu ≡ 64 = omega arith in (
-      sym (fit-all n levels (λ k h. p .loop .inv .1 k (omega arith))),
-      (λ e. p .loop .inv .2 ∙ ap masksOf (take-all (p .loop .cpu) levels (omega arith))),
+    let k = at.returns-2 c in
+    let from = k .args .from .now in
+    let l = k .loop in
+    let n = k .args .n in
+    let size : length from ≡ 64 = k .pre .0 in (
+      sym (below-fit-all n from (λ i h hi. l .inv .1 i (omega arith))),
+      (λ e. gather-all n (l .cpu) from (omega arith) (l .inv .2) (l .inv .3)),
     )
 
 pub gather-spec : {M : Type 1} → statement M
@@ -89,6 +97,7 @@ gather-spec =
     at.close
     Inv-loop
     μ-loop
+    places-requires
     loop-holds
     element-copy-out-level
     level-fits-requires
