@@ -141,8 +141,9 @@ pub extern "C" fn qoriwesh_event(
     o.answer
 }
 
-// The lowest level below `level` that has a CPU of `mask`, and those CPUs: 0 with that level and mask, or with
-// 255 and 0 if there is none; a refusal, 1, 2, 7 or 8, has 255 and 0 too.
+// The lowest level below `level` that has a CPU of `mask`, and those CPUs: 0 with that level and mask, or with 255 and 0 if there is none;
+// a refusal, 1, 2, 7 or 8, has 255 and 0 too. `masks_read` is how many masks were read: one for each level with a CPU below `level`, up to the
+// one found; 0 on a refusal.
 #[no_mangle]
 pub extern "C" fn qoriwesh_find(
     n: usize,
@@ -154,9 +155,10 @@ pub extern "C" fn qoriwesh_find(
     mask: u64,
     found_level: &mut u8,
     found_mask: &mut u64,
+    masks_read: &mut u32,
 ) -> u8
     ensures { λ o. let r = oldRecord «level_masks» «level_counts» «level_words» levels in
-        ⌜ answer o (new «found_level») (new «found_mask») ≡ lentFound n r level mask ⌝ }
+        ⌜ answer o (new «found_level») (new «found_mask») (new «masks_read») ≡ lentFound n r level mask ⌝ }
 {
     if !lengths_fit(
         level_masks.len(),
@@ -164,9 +166,14 @@ pub extern "C" fn qoriwesh_find(
         level_words.len(),
         levels.len(),
     ) {
-        return tell(Found::Refused(BAD_SIZE), found_level, found_mask);
+        return tell(
+            Found::Refused(BAD_SIZE),
+            found_level,
+            found_mask,
+            masks_read,
+        );
     }
     let record = read(level_masks, level_counts, level_words, levels);
     let lowest = cpupri::find::find(n, record, level, mask);
-    tell(lowest, found_level, found_mask)
+    tell(lowest, found_level, found_mask, masks_read)
 }

@@ -2,16 +2,17 @@
 -- Assumes nothing.
 use mathlib.Core.Path.{_≡_, refl, sym, ap, ap₂, _∙_}
 use mathlib.Core.Bool.{Bool, true, false, cond, false≢true}
-use Prim.Native.Nat.{ℕ, zero, suc, _+_, _/_, _^_, _≤_, _<_, zero-le, suc-le-suc}
-use native.Mathlib.Nat.{not-suc-le-zero, le-of-suc-le-suc, zero-lt-suc, lt-of-lt-of-le}
+use Prim.Native.Nat.{ℕ, zero, suc, _+_, _-_, _*_, _/_, _%_, _^_, _≤_, _<_, min, zero-le, suc-le-suc}
+use native.Mathlib.Nat.{not-suc-le-zero, le-of-suc-le-suc, zero-lt-suc, lt-of-lt-of-le, zero-add, suc-add, mod-one}
 use native.Mathlib.Omega.{arith}
 use lib.Arith.{lt-one}
+use lib.Bits.{bitAnd, and-step, and-mask}
 use lib.Dec.{leb, ltb}
 use lib.Count.{ones, ones-step, trailingZeros, under}
 use lib.Pow.{pow-pos}
 use borrow.Author.Tests.{leb-true, leb-false, ltb-true, ltb-false}
 use Rattle.bits.specs.Bit.{bit, digit, first, count, lowest, weight}
-use Rattle.bits.proofs.Digits.{bit-suc, digit-bit}
+use Rattle.bits.proofs.Digits.{bit-suc, bit-low, digit-bit, digit-lt, rest}
 use Rattle.bits.proofs.Word.{word-ext, bit-of-zero}
 
 -- ---- `first`
@@ -89,6 +90,21 @@ count-cong p q (suc k) e =
     ap₂ (λ (b : Bool) (n : ℕ). digit b + n) (e zero (zero-lt-suc k))
     (count-cong (λ c. p (suc c)) (λ c. q (suc c)) k (λ c h. e (suc c) (suc-le-suc h)))
 
+-- all numbers that are counted are below k
+pub count-le : (p : ℕ → Bool) (k : ℕ) → count p k ≤ k
+unfolding count
+count-le p zero = zero-le
+count-le p (suc k) = let ih : count (λ c. p (suc c)) k ≤ k = count-le (λ c. p (suc c)) k in omega (arith, digit-lt (p zero))
+
+-- those below a, and then the next b
+pub count-split : (p : ℕ → Bool) (a b : ℕ) → count p (a + b) ≡ count p a + count (λ c. p (a + c)) b
+unfolding count
+count-split p zero b = ap (count p) (zero-add b) ∙ count-cong p (λ c. p (zero + c)) b (λ c h. ap p (sym (zero-add c))) ∙ sym (zero-add (count (λ c. p (zero + c)) b))
+count-split p (suc a) b =
+    let ih : count (λ c. p (suc c)) (a + b) ≡ count (λ c. p (suc c)) a + count (λ c. p (suc (a + c))) b = count-split (λ c. p (suc c)) a b in
+    let behind : count (λ c. p (suc (a + c))) b ≡ count (λ c. p (suc a + c)) b = count-cong (λ c. p (suc (a + c))) (λ c. p (suc a + c)) b (λ c h. ap p (sym (suc-add a c))) in
+    ap (count p) (suc-add a b) ∙ omega (arith, ih, behind)
+
 -- ---- a word's bits
 
 pub lowest-step : (k m : ℕ) → lowest (suc k) m ≡ cond (bit m 0) zero (suc (lowest k (m / 2)))
@@ -116,6 +132,32 @@ unfolding ones weight count
 weight-ones zero m h = ap ones (lt-one h)
 weight-ones (suc k) m h =
     ones-step m ∙ ap₂ _+_ (sym (digit-bit m)) (weight-ones k (m / 2) (omega arith)) ∙ sym (weight-step k m)
+
+-- how many of the lowest k bits are set: those of what is left modulo 2 ^ k
+weight-zero : (w : ℕ) → weight w 0 ≡ 0
+unfolding weight count
+weight-zero zero = refl
+weight-zero (suc w) = weight-step w 0 ∙ ap₂ (λ (b : Bool) (n : ℕ). digit b + n) (bit-of-zero 0) (weight-zero w)
+
+low-digit : (m k : ℕ) → m % 2 ^ suc k ≡ digit (bit m 0) + 2 * (m / 2 % 2 ^ k)
+low-digit m k =
+    let step : bitAnd m (2 ^ suc k - 1) ≡ bitAnd (m / 2) ((2 ^ suc k - 1) / 2) * 2 + min (m % 2) ((2 ^ suc k - 1) % 2) = and-step m (2 ^ suc k - 1) in
+    let some : 1 ≤ 2 ^ k = pow-pos k in
+    let odd : (2 ^ suc k - 1) % 2 ≡ 1 = omega arith in
+    let half : (2 ^ suc k - 1) / 2 ≡ 2 ^ k - 1 = omega arith in
+    let upper : bitAnd (m / 2) ((2 ^ suc k - 1) / 2) ≡ m / 2 % 2 ^ k = ap (bitAnd (m / 2)) half ∙ and-mask (m / 2) k in
+    omega (arith, and-mask m (suc k), digit-bit m)
+
+pub weight-mod : (w k m : ℕ) → k ≤ w → weight w (m % 2 ^ k) ≡ weight k m
+unfolding weight count
+weight-mod w zero m h = ap (weight w) (mod-one m) ∙ weight-zero w
+weight-mod zero (suc k) m h = absurd (not-suc-le-zero h)
+weight-mod (suc w) (suc k) m h =
+    ap (weight (suc w)) (low-digit m k)
+    ∙ weight-step w (digit (bit m 0) + 2 * (m / 2 % 2 ^ k))
+    ∙ ap₂ (λ (b : Bool) (n : ℕ). digit b + n) (bit-low (bit m 0) (m / 2 % 2 ^ k))
+    (ap (weight w) (rest (bit m 0) (m / 2 % 2 ^ k)) ∙ weight-mod w k (m / 2) (le-of-suc-le-suc h))
+    ∙ sym (weight-step k m)
 
 -- a word of k bits that is not 0 has a lowest bit, and it is set
 pub lowest-bit : (k m : ℕ) → lowest k m < k → bit m (lowest k m) ≡ true

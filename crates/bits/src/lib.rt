@@ -1,7 +1,7 @@
 // 64-bit words as sets of numbers below 64, as kernel bitmaps are: test, set and clear a bit, the
 // lowest set bit, and how many are set. Each function is one or two instructions.
 ghost use mathlib.Core.Path.{_≡_};
-ghost use Prim.Native.Nat.{_-_, _^_, _≤_, _<_};
+ghost use Prim.Native.Nat.{_-_, _%_, _^_, _≤_, _<_};
 ghost use Rattle.bits.specs.Bit.{bit, withBit, withoutBit, putBit, lowest, weight};
 
 // Whether bit c of m is set.
@@ -57,4 +57,15 @@ pub fn all_below(k: usize) -> u64
     ensures { λ r. ⌜ r ≡ 2 ^ k - 1 ⌝ }
 {
     u64::MAX >> (64 - k)
+}
+
+// The bits of m below k.
+pub fn low_bits(m: u64, k: usize) -> u64
+    requires { ⌜ k ≤ 64 ⌝ }
+    ensures { λ r. ⌜ r ≡ m % 2 ^ k ⌝ }
+{
+    if k == 64 {
+        return m;
+    }
+    m & ((1 << k) - 1)
 }

@@ -6,8 +6,8 @@ use mathlib.Core.Logic.{_≢_, _⊎_}
 use mathlib.Core.List.{List, [], _∷_}
 use Prim.Native.Nat.{ℕ, zero, suc, _/_, _%_, _^_, _≤_, _<_}
 use lib.Dec.{eqb, ltb}
-use lib.ListN.{length, getD, set}
-use Rattle.bits.specs.Bit.{bit, withBit}
+use lib.ListN.{length, getD}
+use Rattle.bits.specs.Bit.{bit}
 use Rattle.levels.specs.Level.{levelCount, wordCount, cpuPlaces, unused, invalid}
 use Rattle.levels.specs.Record.{countAt, active, masksOf, countsOf, wordsOf}
 use Rattle.levels.specs.declared.record.Record.{Record}
@@ -36,10 +36,6 @@ unfoldable pub invalidFrom : ℕ → List ℕ → List ℕ
 invalidFrom n [] = []
 invalidFrom zero (l ∷ ls) = invalid ∷ invalidFrom zero ls
 invalidFrom (suc n) (l ∷ ls) = l ∷ invalidFrom n ls
-
--- the masks with CPU c in its level's one; a level that has no mask adds nothing
-unfoldable pub enlisted : List ℕ → ℕ → ℕ → List ℕ
-enlisted masks c l = cond (ltb l levelCount) (set masks l (withBit (getD masks l 0) c)) masks
 
 -- masks, counts and words are what the levels determine
 unfoldable pub agrees : Record → Bool

@@ -4,7 +4,7 @@
 use mathlib.Core.Path.{_≡_, refl, sym, ap, _∙_}
 use mathlib.Core.Bool.{Bool, true, false, not, cond, _&&_, false≢true}
 use mathlib.Core.List.{List}
-use Prim.Native.Nat.{ℕ, _^_, _≤_, _<_}
+use Prim.Native.Nat.{ℕ, suc, _^_, _≤_, _<_}
 use native.Mathlib.Nat.{lt-of-le-of-lt, le-trans, le-of-eq}
 use native.Mathlib.Omega.{arith}
 use lib.Bits.{and-le-r}
@@ -14,10 +14,10 @@ use borrow.Author.Tests.{eqb-true, eq-eqb, ne-eqb, ltb-true, ltb-false, lt-ltb, 
 use Rattle.bits.specs.Bit.{bit, lowest}
 use Rattle.bits.proofs.Tests.{and-left, and-right, and-both}
 use Rattle.bits.proofs.Word.{bit-and, bit-of-zero}
-use Rattle.bits.proofs.Search.{first-holds, first-at-most, lowest-bit, lowest-lt, lowest-at-most}
+use Rattle.bits.proofs.Search.{first-le, first-holds, first-at-most, lowest-bit, lowest-lt, lowest-at-most}
 use Rattle.levels.specs.Level.{levelCount, cpuPlaces}
 use Rattle.levels.specs.Record.{masksOf}
-use Rattle.cpupri.specs.Found.{allowedAt, anyAt, lowestLevel, lowestFound}
+use Rattle.cpupri.specs.Found.{allowedAt, anyAt, lowestLevel, occupiedBelow, lowestFound}
 use Rattle.cpupri.specs.declared.find.Found.the-variants.{Cpus, Nothing}
 use Rattle.levels.proofs.Moved.{mask-at}
 use Rattle.consistency.proofs.Agrees.{mask-bit}
@@ -107,16 +107,20 @@ module _ (levels : List ℕ) (places : length levels ≡ cpuPlaces) (mask : ℕ)
 
 -- ---- the answer
 
--- a level that is found comes with its allowed CPUs
+pub lowest-most : (masks : List ℕ) (below mask : ℕ) → lowestLevel masks below mask ≤ below
+unfolding lowestLevel
+lowest-most masks below mask = first-le (anyAt masks mask) below
+
+-- a level that is found comes with its allowed CPUs and the number of masks read
 pub finds : (masks : List ℕ) (below mask : ℕ) → lowestLevel masks below mask < below
-    → lowestFound masks below mask ≡ Cpus (lowestLevel masks below mask) (allowedAt masks mask (lowestLevel masks below mask))
+    → lowestFound masks below mask ≡ let l = lowestLevel masks below mask in Cpus l (allowedAt masks mask l) (occupiedBelow masks (suc l))
 unfolding lowestFound
 finds masks below mask h =
-    ap (λ (b : Bool). cond b (Cpus (lowestLevel masks below mask) (allowedAt masks mask (lowestLevel masks below mask))) Nothing)
-    (lt-ltb (lowestLevel masks below mask) below h)
+    let l = lowestLevel masks below mask in
+    ap (λ (b : Bool). cond b (Cpus l (allowedAt masks mask l) (occupiedBelow masks (suc l))) (Nothing (occupiedBelow masks below))) (lt-ltb l below h)
 
-pub finds-nothing : (masks : List ℕ) (below mask : ℕ) → below ≤ lowestLevel masks below mask → lowestFound masks below mask ≡ Nothing
+pub finds-nothing : (masks : List ℕ) (below mask : ℕ) → below ≤ lowestLevel masks below mask → lowestFound masks below mask ≡ Nothing (occupiedBelow masks below)
 unfolding lowestFound
 finds-nothing masks below mask h =
-    ap (λ (b : Bool). cond b (Cpus (lowestLevel masks below mask) (allowedAt masks mask (lowestLevel masks below mask))) Nothing)
-    (le-ltb (lowestLevel masks below mask) below h)
+    let l = lowestLevel masks below mask in
+    ap (λ (b : Bool). cond b (Cpus l (allowedAt masks mask l) (occupiedBelow masks (suc l))) (Nothing (occupiedBelow masks below))) (le-ltb l below h)

@@ -1,30 +1,37 @@
-// The lowest-priority search (the kernel's cpupri_find): levels upwards until one has an allowed
-// CPU. It reads one mask a level.
+// The lowest-priority search (the kernel's cpupri_find): from one level that has a CPU to the next, by the two words of
+// level bits, until one has an allowed CPU. It reads one mask for each level that has a CPU.
 ghost use mathlib.Core.Path.{_≡_};
-ghost use Prim.Native.Nat.{_≤_};
+ghost use Prim.Native.Nat.{_*_, _≤_, _<_};
+ghost use lib.ListN.{length, getD};
+ghost use Rattle.bits.specs.Bit.{count};
 ghost use Rattle.bits.specs.Moments.{old};
 ghost use Rattle.levels.specs.Level.{levelCount, cpuPlaces};
-ghost use Rattle.cpupri.specs.Found.{maskFits, answerOf, lowestLevel, lowestFound, found};
+ghost use Rattle.cpupri.specs.Found.{maskFits, marked, Marked, lowestLevel, lowestFound, found};
+ghost use Rattle.cpupri.specs.Search.{Passed, LowestIn};
 use consistency::is_consistent;
 use levels::record::CPUS;
 use levels::record::LEVELS;
 use levels::record::Record;
+use levels::record::WORDS;
+
+// Levels in a word.
+const BITS: usize = 64;
 
 // What the finder answers.
 pub enum Found {
-    // the allowed CPUs at the lowest level below the asked one that has any
-    Cpus { level: u8, mask: u64 },
+    // the allowed CPUs at the lowest level below the asked one that has any, and how many masks were read
+    Cpus { level: u8, mask: u64, read: u32 },
     // no allowed CPU is below the asked level
-    Nothing,
+    Nothing { read: u32 },
     // the refusal's number
     Refused(u8),
 }
 
-// The CPUs of `mask` that run at the lowest level below `level`, of a machine of n CPUs. Refused:
+// The CPUs of `mask` that run at the lowest level below `level`, of a machine of n CPUs, and how many masks were read. Refused:
 // n not 1 to 64 (1), an inconsistent record (2), a level over 101 (7), a mask of 0 or with a bit at
 // n or above (8); the first that applies.
 pub fn find(n: usize, r: Record, level: u32, mask: u64) -> Found
-    ensures { λ a. ⌜ answerOf a ≡ found n r level mask ⌝ }
+    ensures { λ a. ⌜ a ≡ found n r level mask ⌝ }
 {
     if !((0 < n) & (n <= CPUS)) {
         return Found::Refused(1);
@@ -39,7 +46,7 @@ pub fn find(n: usize, r: Record, level: u32, mask: u64) -> Found
     if !mask_fits(n, mask) {
         return Found::Refused(8);
     }
-    lowest(&r.masks, asked, mask)
+    lowest(&r.masks, &r.words, asked, mask)
 }
 
 // Whether a mask is one of n CPUs: not 0, and no bit at n or above.
@@ -53,33 +60,69 @@ pub fn mask_fits(n: usize, mask: u64) -> bool
     (mask != 0) & (mask >> n == 0)
 }
 
-// The search itself, over a record's masks.
-pub fn lowest(masks: &[u64; LEVELS], below: usize, mask: u64) -> Found
+// The search itself, over a record's masks and words.
+fn lowest<'a>(masks: &'a [u64; LEVELS], words: &'a [u64; WORDS], below: usize, mask: u64) -> Found
     requires { ⌜ below ≤ levelCount ⌝ }
+    requires { ⌜ Marked (now masks) (now words) ⌝ }
     ensures { λ a. ⌜ a ≡ lowestFound (old masks) below mask ⌝ }
 {
-    let level = lowest_level(masks, below, mask);
-    if level < below {
-        let cpus = masks[level] & mask;
-        return Found::Cpus {
-            level: level as u8,
-            mask: cpus,
+    let level = lowest_level(masks, words, below, mask);
+    if below <= level {
+        return Found::Nothing {
+            read: marked_below(words, below),
         };
     }
-    Found::Nothing
+    Found::Cpus {
+        level: level as u8,
+        mask: masks[level] & mask,
+        read: marked_below(words, level + 1),
+    }
 }
 
 // The lowest level below `below` that has a CPU of the mask, or `below`.
-pub fn lowest_level(masks: &[u64; LEVELS], below: usize, mask: u64) -> usize
+pub fn lowest_level(masks: &[u64; LEVELS], words: &[u64; WORDS], below: usize, mask: u64) -> usize
     requires { ⌜ below ≤ levelCount ⌝ }
+    requires { ⌜ Marked (now masks) (now words) ⌝ }
     ensures { λ l. ⌜ l ≡ lowestLevel (old masks) below mask ⌝ }
 {
-    let mut level = 0;
-    while level < below {
-        if masks[level] & mask != 0 {
-            return level;
+    let level = lowest_in(masks, words[0], 0, below, mask);
+    if level < BITS {
+        return level;
+    }
+    if below <= BITS {
+        return below;
+    }
+    lowest_in(masks, words[1], BITS, below, mask)
+}
+
+// The same among the levels of one word, which begin at level `base`: one that has no bit in it has no CPU.
+fn lowest_in(masks: &[u64; LEVELS], word: u64, base: usize, below: usize, mask: u64) -> usize
+    requires { ⌜ ((base ≤ 64) × (below ≤ levelCount)) ⌝ }
+    requires { ⌜ Passed (now masks) mask base word ⌝ }
+    ensures { λ l. ⌜ LowestIn (old masks) mask base below l ⌝ }
+{
+    let mut active = word;
+    while active != 0 {
+        let place = bits::lowest_bit(active) as usize;
+        let at = base + place;
+        if below <= at {
+            return below;
         }
-        level += 1;
+        if masks[at] & mask != 0 {
+            return at;
+        }
+        active = bits::clear_bit(active, place);
     }
     below
+}
+
+// How many levels below `end` are marked in the words.
+fn marked_below(words: &[u64; WORDS], end: usize) -> u32
+    requires { ⌜ end ≤ levelCount ⌝ }
+    ensures { λ k. ⌜ k ≡ count (marked (old words)) end ⌝ }
+{
+    if end <= BITS {
+        return bits::count_bits(bits::low_bits(words[0], end));
+    }
+    bits::count_bits(words[0]) + bits::count_bits(bits::low_bits(words[1], end - BITS))
 }

@@ -72,15 +72,16 @@ fn ask(n: usize, r: Record, level: u32, mask: u64) {
 
 fn answer(found: Found) {
     match found {
-        Found::Cpus { level, mask } => {
+        Found::Cpus { level, mask, read } => {
             io::write_all(STDOUT_FILENO, b": level ");
             io::print_decimal(STDOUT_FILENO, level as u64);
             io::write_all(STDOUT_FILENO, b", CPUs ");
             io::print_decimal(STDOUT_FILENO, mask);
-            io::write_all(STDOUT_FILENO, b"\n");
+            masks_read(read);
         }
-        Found::Nothing => {
-            io::write_all(STDOUT_FILENO, b": none\n");
+        Found::Nothing { read } => {
+            io::write_all(STDOUT_FILENO, b": none");
+            masks_read(read);
         }
         Found::Refused(number) => {
             io::write_all(STDOUT_FILENO, b": refused ");
@@ -88,4 +89,10 @@ fn answer(found: Found) {
             io::write_all(STDOUT_FILENO, b"\n");
         }
     }
+}
+
+fn masks_read(read: u32) {
+    io::write_all(STDOUT_FILENO, b", masks read ");
+    io::print_decimal(STDOUT_FILENO, read as u64);
+    io::write_all(STDOUT_FILENO, b"\n");
 }

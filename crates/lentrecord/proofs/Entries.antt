@@ -5,6 +5,7 @@ use mathlib.Core.Bool.{Bool, true, false, cond}
 use Prim.Native.Nat.{ℕ}
 use native.Mathlib.Omega.{arith}
 use Rattle.cpupri.specs.Found as finder
+use Rattle.cpupri.specs.declared.find.Found.{Found}
 use Rattle.levels.specs.declared.record.Record.{Record}
 use Rattle.rules.specs.Entry as entry
 use Rattle.rules.specs.Entry.{result}
@@ -35,9 +36,9 @@ pub handled-unfit : (n : ℕ) (r : Record) (s : Tables) (e : Event) → lentFits
 unfolding lentHandled
 handled-unfit n r s e h = sym (at-false (entry.handled n r s e) (entry.kept badSize r s) h)
 
-pub found-unfit : (n : ℕ) (r : Record) (level mask : ℕ) → lentFits r ≡ false → finder.without badSize ≡ lentFound n r level mask
+pub found-unfit : (n : ℕ) (r : Record) (level mask : ℕ) → lentFits r ≡ false → finder.without badSize 0 ≡ lentFound n r level mask
 unfolding lentFound
-found-unfit n r level mask h = sym (at-false (finder.found n r level mask) (finder.without badSize) h)
+found-unfit n r level mask h = sym (at-false (finder.answerOf (finder.found n r level mask)) (finder.without badSize 0) h)
 
 -- ---- all four fit: r is what was lent, q what was read, t what came back, u what was written
 
@@ -56,10 +57,12 @@ unfolding lentHandled
 handled-fit n a k r q t u s z e h read same written =
     ap (λ (x : Record). result a k x z) written ∙ same ∙ ap (λ (x : Record). entry.handled n x s e) read ∙ sym (at-true (entry.handled n r s e) (entry.kept badSize r s) h)
 
-pub found-fit : (n : ℕ) (r q : Record) (level mask : ℕ) (a : finder.Answer) → lentFits r ≡ true → q ≡ r → a ≡ finder.found n q level mask → a ≡ lentFound n r level mask
+pub found-fit : (n : ℕ) (r q : Record) (level mask : ℕ) (a : Found) → lentFits r ≡ true → q ≡ r → a ≡ finder.found n q level mask
+    → finder.answerOf a ≡ lentFound n r level mask
 unfolding lentFound
 found-fit n r q level mask a h read same =
-    same ∙ ap (λ (x : Record). finder.found n x level mask) read ∙ sym (at-true (finder.found n r level mask) (finder.without badSize) h)
+    ap finder.answerOf (same ∙ ap (λ (x : Record). finder.found n x level mask) read)
+    ∙ sym (at-true (finder.answerOf (finder.found n r level mask)) (finder.without badSize 0) h)
 
 -- what comes back accepted passes the check again
 pub checked-again : (n : ℕ) (u t : Record) (z : Tables) → lentFits u ≡ true → u ≡ t → entry.checked n t z ≡ 0 → lentChecked n u z ≡ 0

@@ -11,8 +11,8 @@ use Rattle.rules.specs.Tables.{Tables}
 use Rattle.lentrecord.specs.Lent.{lentFits}
 
 -- what the finder answers, put together
-abbrev pub answer : ℕ → ℕ → ℕ → finder.Answer
-answer number level mask = record { number = number; level = level; mask = mask }
+abbrev pub answer : ℕ → ℕ → ℕ → ℕ → finder.Answer
+answer number level mask read = record { number = number; level = level; mask = mask; read = read }
 
 -- ---- the entries
 
@@ -26,4 +26,4 @@ unfoldable pub lentHandled : ℕ → Record → Tables → Event → entry.Resul
 lentHandled n r s e = cond (lentFits r) (entry.handled n r s e) (entry.kept badSize r s)
 
 unfoldable pub lentFound : ℕ → Record → ℕ → ℕ → finder.Answer
-lentFound n r level mask = cond (lentFits r) (finder.found n r level mask) (finder.without badSize)
+lentFound n r level mask = cond (lentFits r) (finder.answerOf (finder.found n r level mask)) (finder.without badSize 0)

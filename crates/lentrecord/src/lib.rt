@@ -63,24 +63,30 @@ pub fn write(
     copy_u8(&record.levels, levels);
 }
 
-// What the finder found, told to a C caller: its level and CPUs where the caller wants them, 255 and 0 if there are none, and the
-// number that is returned.
-pub fn tell(found: Found, level: &mut u8, mask: &mut u64) -> u8
-    ensures { λ o. ⌜ answer o (new level) (new mask) ≡ answerOf found ⌝ }
+// What the finder found, told to a C caller: its level and CPUs where the caller wants them, 255 and 0 if there are none, how many masks were
+// read, and the number that is returned.
+pub fn tell(found: Found, level: &mut u8, mask: &mut u64, read: &mut u32) -> u8
+    ensures { λ o. ⌜ answer o (new level) (new mask) (new read) ≡ answerOf found ⌝ }
 {
     let invalid = Level::INVALID;
     *level = invalid.number;
     *mask = 0;
+    *read = 0;
     match found {
         Found::Cpus {
             level: l,
             mask: cpus,
+            read: count,
         } => {
             *level = l;
             *mask = cpus;
+            *read = count;
             0
         }
-        Found::Nothing => 0,
+        Found::Nothing { read: count } => {
+            *read = count;
+            0
+        }
         Found::Refused(number) => number,
     }
 }

@@ -8,7 +8,7 @@ use native.Mathlib.Omega.{arith}
 use lib.ListN.{length, getD}
 use Rattle.bits.specs.Bit.{bit, withBit, withoutBit, first, tally, packed}
 use Rattle.cpupri.specs.Consistent.{levelFits, fitFrom, levelsFit, same, agrees, consistent}
-use Rattle.cpupri.specs.Found.{firstFailing, sizeFits, maskFits, allowedAt, anyAt, lowestLevel, lowestFound, findChecks, found}
+use Rattle.cpupri.specs.Found.{firstFailing, sizeFits, maskFits}
 use Rattle.cpupri.specs.Record.{table, maskAt, countAt, masksOf, countsOf, wordsOf, recordOf}
 use Rattle.rules.specs.Lists.{from, select, joined, any, each, bestFrom, best, insertBefore, delete}
 use Rattle.rules.specs.WellFormed.{gathered, falls}
@@ -23,7 +23,7 @@ use Rattle.rules.specs.Hotplug.{hotplug}
 use Rattle.rules.specs.Events.{evacuated}
 use Rattle.rules.specs.Demand3.{mostMoves, onlineCpus, movers, origins, receivers, displacements}
 use Rattle.rules.specs.LentDemand3.{Entries, moverAt, originAt, receiverAt, displacedAt}
-use Rattle.rules.specs.LentCases.{LentCase, lentCases, returned, FinderCase, finderCases, finderOffline, asked}
+use Rattle.rules.specs.LentCases.{LentCase, lentCases, returned}
 
 pub all-cases : map seen cases ≡ map (λ (k : Case). k .expected) cases
 unfolding bit first tally from select joined any bestFrom best insertBefore delete firstFailing sizeFits maskFits gathered next settle outcome
@@ -47,11 +47,6 @@ unfolding bit withBit withoutBit first tally packed levelFits fitFrom levelsFit 
     outcome logNumbers
     rowsOf padded flatOf storedRow storedRows checked eventAnswer made handled
 all-lent = refl
-
-pub all-found : map asked (finderCases ++ finderOffline) ≡ map (λ (k : FinderCase). k .expected) (finderCases ++ finderOffline)
-unfolding bit first tally packed levelFits fitFrom levelsFit same agrees consistent firstFailing sizeFits maskFits table maskAt countAt masksOf
-    countsOf wordsOf recordOf allowedAt anyAt lowestLevel lowestFound findChecks found
-all-found = refl
 
 -- K5 takes 2 moves on 3 CPUs: the bound of demand 3 is reached
 pub bound-reached : mostMoves 3 ≡ 2

@@ -1,10 +1,9 @@
--- Cases over what the caller lends, through the three public entries and the finder. The paper's words stand above each; tables, record and what comes back
+-- Cases over what the caller lends, through the three public entries. The paper's words stand above each; tables, record and what comes back
 -- are written out number by number.
 -- Assumes nothing.
 use mathlib.Core.List.{List, [], _∷_, _++_, tail}
 use Prim.Native.Nat.{ℕ, _+_, _*_, _^_}
 use lib.ListN.{set, replicate}
-use Rattle.cpupri.specs.Found.{Answer, found}
 use Rattle.cpupri.specs.Record.{recordOf, lentRecord}
 use Rattle.levels.specs.declared.record.Record.{Record}
 use Rattle.rules.specs.Machine.{Column}
@@ -286,31 +285,3 @@ handledOnline =
 abbrev pub lentCases : List LentCase
 lentCases = w1 ++ w2 ++ w2Full ++ w3 ++ w4 ++ w5 ++ w6 ++ sizes ++ slices ++ lengths ++ freshMade ++ illFormedFirst ++ handledMove ++ handledTick
     ++ onlineMasks ++ offlineCpus ++ handledOnline
-
--- ---- the finder
-
-pub record FinderCase : Type 0 where
-  pub n : ℕ
-  pub cpupri : Record
-  pub level : ℕ
-  pub mask : ℕ
-  pub expected : Answer
-
-abbrev pub asked : FinderCase → Answer
-asked k = found (k .n) (k .cpupri) (k .level) (k .mask)
-
--- asked for a level below l among the CPUs of the mask k, it answers the number a, the level v and the mask u
-abbrev pub finds : ℕ → Record → ℕ → ℕ → ℕ → ℕ → ℕ → FinderCase
-finds n r l k a v u = record { n = n; cpupri = r; level = l; mask = k; expected = record { number = a; level = v; mask = u } }
-
--- "it answers the lowest level below the asked one that has an allowed CPU, with those CPUs as a mask, or none, exactly if there is no such level";
--- "None is answer 0 with level 255 and mask 0; a refusing finder gives its number with the same 255 and 0." Refused in order: 1, 2, "finder: the
--- record is inconsistent in itself"; 7, "finder: level over 101"; 8, "mask 0, or a bit at N or above"
-abbrev pub finderCases : List FinderCase
-finderCases =
-    finds 2 record2 101 3 0 1 2 ∷ finds 2 record2 101 1 0 255 0 ∷ finds 0 noRecord 102 0 1 255 0 ∷ finds 65 noRecord 102 0 1 255 0
-    ∷ finds 2 noRecord 102 0 2 255 0 ∷ finds 2 record2 102 0 7 255 0 ∷ finds 2 record2 101 4 8 255 0 ∷ []
-
--- L8: "a record may now hold INVALID below N, for offline CPUs only (the finder takes any)"
-abbrev pub finderOffline : List FinderCase
-finderOffline = finds 2 (atLevels 255 1) 101 3 0 1 2 ∷ finds 2 (atLevels 255 1) 101 1 0 255 0 ∷ finds 2 (atLevels 255 255) 101 3 0 255 0 ∷ []

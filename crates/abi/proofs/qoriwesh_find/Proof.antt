@@ -4,7 +4,6 @@ use mathlib.Core.Path.{sym, _∙_}
 use borrow.Author.Tests.{not-true, not-false}
 use Rattle.levels.specs.Lent.{nowRecord}
 use Rattle.levels.specs.declared.record.Record.{Record}
-use Rattle.cpupri.specs.Found.{answerOf}
 use Rattle.lentrecord.proofs.Entries.{found-unfit, found-fit}
 use Rattle.abi.proofs.qoriwesh_find.Statement.{statement}
 use Rattle.abi.proofs.qoriwesh_find.Tie as tie
@@ -33,7 +32,7 @@ returns-2 c =
     let f = k .lengths-fit in
     let g = k .read in
     k .tell2 .ensures
-    ∙ found-fit (x .n) (given (k .start)) (g .result) (x .level) (x .mask) (answerOf (k .find .result))
+    ∙ found-fit (x .n) (given (k .start)) (g .result) (x .level) (x .mask) (k .find .result)
     (sym (f .ensures) ∙ not-false (f .result) (k .if1 .left)) (g .ensures) (k .find .ensures)
 
 pub qoriwesh-find-spec : {M : Type 1} → statement M

@@ -4,29 +4,36 @@ use mathlib.Core.Path.{_≡_, refl, sym, ap, _∙_}
 use mathlib.Core.Bool.{Bool, true, false, not, cond}
 use Prim.Native.Nat.{ℕ}
 use lib.Dec.{leb, ltb}
-use lib.ListN.{getD}
+use lib.ListN.{length, getD}
 use mir.Syntax.{w64}
 use mir.Val.{Fits}
 use borrow.Author.Tests.{not-true, not-false, le-leb, lt-leb, leb-true}
 use Rattle.bits.proofs.Tests.{and-right}
-use Rattle.levels.specs.Level.{levelCount}
+use Rattle.levels.specs.Level.{levelCount, cpuPlaces}
 use Rattle.consistency.specs.Consistent.{consistent}
-use Rattle.cpupri.specs.Found.{Answer, unless, firstFailing, sizeFits, maskFits, findChecks, answerOf, lowestFound, found}
+use Rattle.cpupri.specs.Found.{unless, firstFailing, sizeFits, maskFits, findChecks, lowestFound, found}
+use Rattle.cpupri.specs.declared.find.Found.{Found}
 use Rattle.levels.specs.declared.record.Record.{Record}
+use Rattle.consistency.proofs.Agrees.{consistent-whole}
+use Rattle.cpupri.proofs.Search.{marked-whole}
 use Rattle.cpupri.proofs.find.find.Statement.{statement}
 use Rattle.cpupri.proofs.find.find.Tie as tie
 use Rattle.cpupri.proofs.find.find.Proof.Paths as at
 mod Paths
 
 -- the answer by what the four checks say
-abbrev answer : Bool → Bool → Bool → Bool → Answer → Answer
+abbrev answer : Bool → Bool → Bool → Bool → Found → Found
 answer size good high fit a = unless (cond (not size) 1 (cond (not good) 2 (cond high 7 (cond (not fit) 8 0)))) a
 
 found-is : (n : ℕ) (r : Record) (level mask : ℕ) {size good high fit : Bool}
     → sizeFits n ≡ size → consistent n r ≡ good → leb levelCount level ≡ high → maskFits n mask ≡ fit
-    → found n r level mask ≡ answer size good high fit (answerOf (lowestFound (r .masks) level mask))
+    → found n r level mask ≡ answer size good high fit (lowestFound (r .masks) level mask)
 unfolding found findChecks firstFailing
-found-is n r level mask p q s t = λ i. answer (p i) (q i) (s i) (t i) (answerOf (lowestFound (r .masks) level mask))
+found-is n r level mask p q s t = λ i. answer (p i) (q i) (s i) (t i) (lowestFound (r .masks) level mask)
+
+-- the record has 64 places for CPUs
+places : (c : tie.Start) → length (at.start c .args .t2 .levels) ≡ cpuPlaces
+places c = search needs
 
 -- ---- the checks that were passed
 
@@ -89,14 +96,17 @@ returns-4 c =
     sym (found-is (a .n) (a .t2) (a .level) (a .mask) (size-fits (k .else1)) (good (k .else2)) (low (k .else3)) bad)
 
 lowest-requires : tie.Need-lowest-requires
-lowest-requires c κs = search needs
+lowest-requires c κs =
+    let k = at.lowest-requires c in
+    let a = k .args in
+    (search needs, marked-whole (a .t2) (consistent-whole (a .n) (a .t2) (places (k .start)) (good (k .else2))))
 
 returns-5 : tie.Need-returns-5
 returns-5 c =
     let k = at.returns-5 c in
     let a = k .args in
     let fits = sym (k .mask-fits .ensures) ∙ not-false (k .mask-fits .result) (k .if4 .left) in
-    ap answerOf (k .lowest .ensures)
+    k .lowest .ensures
     ∙ sym (found-is (a .n) (a .t2) (a .level) (a .mask) (size-fits (k .else1)) (good (k .else2)) (low (k .else3)) fits)
 
 pub find-spec : {M : Type 1} → statement M

@@ -6,45 +6,50 @@ use Rattle.cpupri.proofs.find.lowest_level.Tie as tie
 abbrev typeOf : {A : Type 0} → A → Type 0
 typeOf {A} x = A
 
-module _ {i0 : tie.InvT-loop} {i1 : tie.MeasureT-loop} where
-  abbrev pub start : (c : tie.Start i0 i1) → record { args : typeOf (c .args) }
-  start c = record { args = c .args }
+abbrev pub start : (c : tie.Start) → record { args : typeOf (c .args); pre : typeOf (c .pre) }
+start c = record { args = c .args; pre = c .pre }
 
-  abbrev pub at-loop : (c : tie.At-loop i0 i1) → let b = start (c .before) in record { args : typeOf (b .args); loop : typeOf (c .loop) }
-  at-loop c = let b = start (c .before) in record { args = b .args; loop = c .loop }
+abbrev pub after-lowest-in : (c : tie.After-lowest-in) → let b = start (c .before .before) in record { args : typeOf (b .args); pre : typeOf (b .pre); lowest-in : typeOf (c .lowest-in) }
+after-lowest-in c = let b = start (c .before .before) in record { args = b .args; pre = b .pre; lowest-in = c .lowest-in }
 
-  abbrev pub in-loop : (c : tie.In-loop i0 i1) → let b = at-loop (c .before) in record { args : typeOf (b .args); loop : typeOf (b .loop) }
-  in-loop c = let b = at-loop (c .before) in record { args = b .args; loop = b .loop }
+abbrev pub then1 : (c : tie.Then1) → let b = after-lowest-in (c .before) in record { args : typeOf (b .args); pre : typeOf (b .pre); lowest-in : typeOf (b .lowest-in); if1 : typeOf (c .if1) }
+then1 c = let b = after-lowest-in (c .before) in record { args = b .args; pre = b .pre; lowest-in = b .lowest-in; if1 = c .if1 }
 
-  abbrev pub after-loop : (c : tie.After-loop i0 i1) → let b = at-loop (c .before) in record { args : typeOf (b .args); loop : typeOf (b .loop) }
-  after-loop c = let b = at-loop (c .before) in record { args = b .args; loop = b .loop }
+abbrev pub else1 : (c : tie.Else1) → let b = after-lowest-in (c .before) in record { args : typeOf (b .args); pre : typeOf (b .pre); lowest-in : typeOf (b .lowest-in); if1 : typeOf (c .if1) }
+else1 c = let b = after-lowest-in (c .before) in record { args = b .args; pre = b .pre; lowest-in = b .lowest-in; if1 = c .if1 }
 
-  abbrev pub then1 : (c : tie.Then1 i0 i1) → let b = in-loop (c .before .before) in record { args : typeOf (b .args); loop : typeOf (b .loop); if1 : typeOf (c .if1) }
-  then1 c = let b = in-loop (c .before .before) in record { args = b .args; loop = b .loop; if1 = c .if1 }
+abbrev pub then2 : (c : tie.Then2) → let b = else1 (c .before) in record { args : typeOf (b .args); pre : typeOf (b .pre); lowest-in : typeOf (b .lowest-in); if1 : typeOf (b .if1); if2 : typeOf (c .if2) }
+then2 c = let b = else1 (c .before) in record { args = b .args; pre = b .pre; lowest-in = b .lowest-in; if1 = b .if1; if2 = c .if2 }
 
-  abbrev pub else1 : (c : tie.Else1 i0 i1) → let b = in-loop (c .before .before) in record { args : typeOf (b .args); loop : typeOf (b .loop); if1 : typeOf (c .if1) }
-  else1 c = let b = in-loop (c .before .before) in record { args = b .args; loop = b .loop; if1 = c .if1 }
+abbrev pub else2 : (c : tie.Else2) → let b = else1 (c .before) in record { args : typeOf (b .args); pre : typeOf (b .pre); lowest-in : typeOf (b .lowest-in); if1 : typeOf (b .if1) }
+else2 c = let b = else1 (c .before) in record { args = b .args; pre = b .pre; lowest-in = b .lowest-in; if1 = b .if1 }
 
-  abbrev pub returns : (c : tie.Then1 i0 i1) → typeOf (then1 c)
-  returns c = then1 c
+abbrev pub after-lowest-in2 : (c : tie.After-lowest-in2) → let b = else2 (c .before .before) in record { args : typeOf (b .args); pre : typeOf (b .pre); lowest-in : typeOf (b .lowest-in); if1 : typeOf (b .if1); lowest-in2 : typeOf (c .lowest-in2) }
+after-lowest-in2 c = let b = else2 (c .before .before) in record { args = b .args; pre = b .pre; lowest-in = b .lowest-in; if1 = b .if1; lowest-in2 = c .lowest-in2 }
 
-  abbrev pub loop-again : (c : tie.Else1 i0 i1) → typeOf (else1 c)
-  loop-again c = else1 c
+abbrev pub lowest-in-requires : (c : tie.After-lowest-in-arg) → typeOf (start (c .before))
+lowest-in-requires c = start (c .before)
 
-  abbrev pub returns-2 : (c : tie.After-loop i0 i1) → typeOf (after-loop c)
-  returns-2 c = after-loop c
+abbrev pub returns : (c : tie.Then1) → typeOf (then1 c)
+returns c = then1 c
 
-pub close : {M : Type 1} → (i0 : tie.InvT-loop) → (i1 : tie.MeasureT-loop) → tie.Need-loop-holds i0 i1 → tie.Need-mul-if1 i0 i1 → tie.Need-element-copy-out-if1 i0 i1 → tie.Need-returns i0 i1 → tie.Need-add-level i0 i1 → tie.Need-loop-less i0 i1 → tie.Need-loop-again i0 i1 → tie.Need-returns-2 i0 i1 → statement M
-close i0 i1 a0 a1 a2 a3 a4 a5 a6 a7 =
+abbrev pub returns-2 : (c : tie.Then2) → typeOf (then2 c)
+returns-2 c = then2 c
+
+abbrev pub lowest-in-requires-2 : (c : tie.After-lowest-in-arg2) → typeOf (else2 (c .before))
+lowest-in-requires-2 c = else2 (c .before)
+
+abbrev pub returns-3 : (c : tie.After-lowest-in2) → typeOf (after-lowest-in2 c)
+returns-3 c = after-lowest-in2 c
+
+pub close : {M : Type 1} → tie.Need-element-copy-out-lowest-in → tie.Need-lowest-in-requires → tie.Need-returns → tie.Need-returns-2 → tie.Need-element-copy-out-lowest-in-2 → tie.Need-lowest-in-requires-2 → tie.Need-returns-3 → statement M
+close a0 a1 a2 a3 a4 a5 a6 =
     tie.close
     (tie.spec
-    i0
-    i1
     a0
     a1
     a2
     a3
     a4
     a5
-    a6
-    a7)
+    a6)
