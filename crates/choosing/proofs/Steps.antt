@@ -13,7 +13,9 @@ use lib.ListN.{length, getD, set}
 use lib.Seq.{set-getD}
 use borrow.Author.Tests.{eqb-true, eqb-false, eq-eqb, ne-eqb, ltb-true}
 use Rattle.bits.specs.Bit.{bit, lowest}
-use Rattle.cpupri.specs.Found.{lowestLevel, allowedAt}
+use Rattle.bits.proofs.Tests.{fails}
+use Rattle.cpupri.specs.Found.{lowestLevel, allowedAt, Marked}
+use Rattle.cpupri.proofs.Search.{marked-levels}
 use Rattle.cpupri.specs.Record.{masksOf}
 use Rattle.rules.specs.Lists.{In, delete}
 use Rattle.rules.specs.Machine.{Machine, taskOf, prioOf, row, isOnline, idleLevel, level, levels, levelOf, rowLevel, allowed, dequeue, runnable, taskPlaces, highestPriority}
@@ -24,14 +26,14 @@ use Rattle.laws.specs.Limited.{holds, drawn, Limited}
 use Rattle.laws.proofs.Apart.{in-row, runnable-fit, runnable-place}
 use Rattle.laws.proofs.Online.{level-online}
 use Rattle.laws.proofs.Choice.{chosen, chosen-next, none-movable, movable-one, Target, target-of}
-use Rattle.laws.proofs.Finder.{movable-found, found-level, found-destination}
+use Rattle.laws.proofs.Finder.{movable-found, found-is, found-level, found-destination}
 use Rattle.laws.proofs.Limited.{none-some, candidate-movable}
 use Rattle.laws.proofs.Lists.{same?, in-tails, tails-in, delete-behind}
 use Rattle.laws.proofs.Record.{levels-below}
 use Rattle.laws.proofs.Step.{Origin, origin-row, origin-small}
 use Rattle.placement.proofs.Levels.{levels-row}
 use Rattle.movelog.specs.Entry.{moveBy}
-use Rattle.mover.specs.Foremost.{Foremost, BestOf}
+use Rattle.mover.specs.Foremost.{Foremost, BestOf, NoneAbove}
 use Rattle.hinting.specs.Hinted.{taskOption}
 use Rattle.hinting.proofs.Hints.{task-none, task-some}
 use Rattle.choosing.specs.Choosing.{Choosing, stepOf, stepBy, Leads}
@@ -39,7 +41,7 @@ use Rattle.mover.specs.Wanted.{meant}
 use Rattle.movelog.specs.declared.Step.{Step}
 use Rattle.mover.specs.declared.pick.Mover.{Mover}
 use Rattle.mover.specs.declared.scan.Test.the-variants.{Drawn}
-use Rattle.mover.proofs.Candidates.{tail-in, found-is}
+use Rattle.mover.proofs.Candidates.{tail-in}
 
 -- ---- the same test for all who wait gives the same
 
@@ -141,6 +143,15 @@ module _ (m : Machine) (w : WellFormed m) where
       go (some v) e =
           let k : Chosen m v = chosen m v w e in
           absurd (false≢true (sym (h (v .origin) (origin-small m v w k) (v .task) (k .waits)) ∙ k .moves))
+
+  -- nobody who waits is above a level that no CPU is below: no step applies
+  pub none-above : (l : ℕ) → ((c : ℕ) → c < m .n → l ≤ level m c) → NoneAbove m l (m .n) → next m ≡ none
+  none-above l least low =
+      none-next (λ d h u i. fails (movable m u) (λ t.
+      let f : (c : ℕ) × (c < m .n) × (allowed m u c ≡ true) × (level m c < levelOf (prioOf m u)) = movable-one m u t in
+      let a : l ≤ level m (f .0) = least (f .0) (f .1) in
+      let b : levelOf (prioOf m u) ≤ l = low d h u i in
+      omega (arith, f .3)))
 
   module _ (b : Mover) (f : Foremost (movable m) m (m .n) b) where
     abbrev t : ℕ
@@ -307,14 +318,20 @@ module _ (m : Machine) (w : WellFormed m) where
 
 -- ---- in terms of the lent tables
 
-module _ {m : Machine} {n : ℕ} {ps cs ms ks flat masks ls : List ℕ} (k : Choosing m n ps cs ms ks flat masks ls) where
+module _ {m : Machine} {n : ℕ} {ps cs ms ks flat masks words ls : List ℕ} (k : Choosing m n ps cs ms ks flat masks words ls) where
   -- what is stored is the machine's
   stored : (t : ℕ) → stepBy masks ps cs ms t ≡ stepBy (masksOf (levels m)) (m .prio) (m .cpu) (m .mask) t
   stored t =
-      ap (λ (x : List ℕ). stepBy x ps cs ms t) (k .looking .levels)
+      ap (λ (x : List ℕ). stepBy x ps cs ms t) (k .masks)
       ∙ ap (λ (x : List ℕ). stepBy (masksOf (levels m)) x cs ms t) (k .looking .prio)
       ∙ ap (λ (x : List ℕ). stepBy (masksOf (levels m)) (m .prio) x ms t) (k .cpu)
       ∙ ap (λ (x : List ℕ). stepBy (masksOf (levels m)) (m .prio) (m .cpu) x t) (k .looking .mask)
+
+  -- the words say which levels have a CPU
+  pub words-mark : Marked masks words
+  words-mark =
+      subst (λ (x : List ℕ). Marked x words) (sym (k .masks))
+      (subst (λ (x : List ℕ). Marked (masksOf (levels m)) x) (sym (k .words)) (marked-levels (levels m)))
 
   -- a column is as long as there are task places
   pub prio-size : length ps ≡ taskPlaces

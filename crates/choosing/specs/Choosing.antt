@@ -11,6 +11,7 @@ use lib.ListN.{getD}
 use Rattle.bits.specs.Bit.{lowest}
 use Rattle.cpupri.specs.Level.{levelOf}
 use Rattle.cpupri.specs.Found.{lowestLevel, allowedAt}
+use Rattle.cpupri.specs.Record.{masksOf, countsOf, wordsOf}
 use Rattle.rules.specs.Machine.{Machine, levels, taskPlaces, highestPriority}
 use Rattle.rules.specs.Migration.{Move, next}
 use Rattle.rules.specs.Tables.{nothing}
@@ -18,11 +19,13 @@ use Rattle.movelog.specs.Entry.{moveBy}
 use Rattle.mover.specs.Foremost.{Looking}
 use Rattle.movelog.specs.declared.Step.{Step}
 
--- the lent tables hold the machine m of n CPUs: besides, the tasks' CPUs and the record's levels
-pub record Choosing (m : Machine) (n : ℕ) (ps cs ms ks flat masks ls : List ℕ) : Type 0 where
-  pub looking : Looking m ps ms ks flat masks
+-- the lent tables hold the machine m of n CPUs: besides, the tasks' CPUs and the record's masks, words and levels
+pub record Choosing (m : Machine) (n : ℕ) (ps cs ms ks flat lm lw ls : List ℕ) : Type 0 where
+  pub looking : Looking m ps ms ks flat
   pub cpus : n ≡ m .n
   pub cpu : cs ≡ m .cpu
+  pub masks : lm ≡ masksOf (levels m)
+  pub words : lw ≡ wordsOf (countsOf (levels m))
   pub levels : ls ≡ levels m
 
 -- ---- steps

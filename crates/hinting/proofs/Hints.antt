@@ -1,7 +1,7 @@
--- A hint that is true before a step gives one that is true after it.
+-- Candidates before a step give those after it.
 -- Assumes nothing.
 use mathlib.Core.Path.{_≡_, refl, sym, ap, _∙_, subst, subst₂}
-use mathlib.Core.Bool.{Bool, true, false, cond, _||_, false≢true}
+use mathlib.Core.Bool.{Bool, true, false, cond, _||_}
 use mathlib.Core.Logic.{_≢_}
 use mathlib.Core.Option.{Option, none, some}
 use Prim.Native.Nat.{ℕ, _≤_, _<_}
@@ -17,9 +17,8 @@ use Rattle.laws.proofs.Bools.{both}
 use Rattle.laws.proofs.Apart.{in-row, runnable-place}
 use Rattle.laws.proofs.Choice.{chosen}
 use Rattle.laws.proofs.Limited.{first-in, limited-step, limited-none}
-use Rattle.hinting.specs.Hinted.{cpuOption, taskOption, Hinted, nobodyIn, hintNext}
-use Rattle.hinting.specs.declared.hint.Hint.{Hint}
-use Rattle.hinting.specs.declared.hint.Hint.the-variants.{Unknown, Few}
+use Rattle.hinting.specs.Hinted.{cpuOption, taskOption, candidates, Among, nobodyIn, candidatesAfter}
+use Rattle.hinting.specs.declared.hint.Candidates.{Candidates}
 
 -- ---- options as numbers
 
@@ -78,12 +77,17 @@ module _ (m : Machine) (w : WellFormed m) (v : Move) (n : next m ≡ some v) whe
       go true = e
       go false = refl
 
-  pub hinted-after : (h : Hint) → Hinted m h → Hinted (migrate v m) (hintNext h (v .task) (v .target) (orNothing (displaced m v)))
-  hinted-after Unknown l = tt
-  hinted-after (Few f x) l = go (eqb f (v .target)) refl (limited-step m (cpuOption f) (taskOption x) w v k l)
+  pub among-after : (few : Candidates) → Among m few → Among (migrate v m) (candidatesAfter few (v .task) (v .target) (orNothing (displaced m v)))
+  among-after few l = go (eqb f (v .target)) refl (limited-step m (cpuOption f) (taskOption x) w v k l)
     where
+      f : ℕ
+      f = few .fallen
+
+      x : ℕ
+      x = few .new
+
       go : (b : Bool) → eqb f (v .target) ≡ b → Limited (migrate v m) (fallenAfter (cpuOption f) v) (newAfter m (cpuOption f) (taskOption x) v)
-          → Hinted (migrate v m) (cond b (Few cpuPlaces (cond (eqb x nothing || eqb x (v .task)) out x)) (Few f out))
+          → Among (migrate v m) (cond b (candidates cpuPlaces (cond (eqb x nothing || eqb x (v .task)) out x)) (candidates f out))
       go true e s =
           subst (λ (o : Option ℕ). Limited (migrate v m) none o) (sym (new-is x))
           (subst (λ (b : Bool). Limited (migrate v m) (cond b none (cpuOption f)) (cond b (orElse (v .task) (taskOption x) (displaced m v)) (displaced m v)))
@@ -95,28 +99,22 @@ module _ (m : Machine) (w : WellFormed m) (v : Move) (n : next m ≡ some v) whe
 
 -- ---- nobody can move
 
-pub nobody-moves : (m : Machine) → WellFormed m → (h : Hint) → Hinted m h → nobodyIn h ≡ true → next m ≡ none
-nobody-moves m w Unknown l e = absurd (false≢true e)
-nobody-moves m w (Few f x) l e =
-    let b : (leb cpuPlaces f ≡ true) × (eqb x nothing ≡ true) = both (leb cpuPlaces f) (eqb x nothing) e in
-    let high : cpuPlaces ≤ f = leb-true cpuPlaces f (b .0) in
+pub nobody-moves : (m : Machine) → WellFormed m → (few : Candidates) → Among m few → nobodyIn few ≡ true → next m ≡ none
+nobody-moves m w few l e =
+    let b : (leb cpuPlaces (few .fallen) ≡ true) × (eqb (few .new) nothing ≡ true) = both (leb cpuPlaces (few .fallen)) (eqb (few .new) nothing) e in
+    let high : cpuPlaces ≤ few .fallen = leb-true cpuPlaces (few .fallen) (b .0) in
     limited-none m w
-    (subst₂ (λ (c t : Option ℕ). Limited m c t) (ap (λ (q : Bool). cond q (some f) none) (le-ltb f cpuPlaces high))
-    (ap (λ (q : Bool). cond q none (some x)) (b .1)) l)
+    (subst₂ (λ (c t : Option ℕ). Limited m c t) (ap (λ (q : Bool). cond q (some (few .fallen)) none) (le-ltb (few .fallen) cpuPlaces high))
+    (ap (λ (q : Bool). cond q none (some (few .new))) (b .1)) l)
 
 -- ---- as the code tests
 
-module _ {h : Hint} {f x : ℕ} (is : h ≡ Few f x) (t d y : ℕ) where
-  pub next-off : (f ≡ d → ⊥) → Few f y ≡ hintNext h t d y
+module _ (few : Candidates) (t d y : ℕ) where
+  pub next-off : (few .fallen ≡ d → ⊥) → candidates (few .fallen) y ≡ candidatesAfter few t d y
   next-off n =
-      sym (ap (λ (b : Bool). cond b (Few cpuPlaces (cond (eqb x nothing || eqb x t) y x)) (Few f y)) (ne-eqb f d n))
-      ∙ ap (λ (g : Hint). hintNext g t d y) (sym is)
+      sym (ap (λ (b : Bool). cond b (candidates cpuPlaces (cond (eqb (few .new) nothing || eqb (few .new) t) y (few .new))) (candidates (few .fallen) y)) (ne-eqb (few .fallen) d n))
 
-  pub next-on : f ≡ d → (b : Bool) → (eqb x nothing || eqb x t) ≡ b → Few cpuPlaces (cond b y x) ≡ hintNext h t d y
+  pub next-on : few .fallen ≡ d → (b : Bool) → (eqb (few .new) nothing || eqb (few .new) t) ≡ b → candidates cpuPlaces (cond b y (few .new)) ≡ candidatesAfter few t d y
   next-on e b q =
-      sym (ap (λ (a : Bool). cond a (Few cpuPlaces (cond b y x)) (Few f y)) (eq-eqb f d e))
-      ∙ ap (λ (a : Bool). cond (eqb f d) (Few cpuPlaces (cond a y x)) (Few f y)) (sym q)
-      ∙ ap (λ (g : Hint). hintNext g t d y) (sym is)
-
-pub next-unknown : {h : Hint} → h ≡ Unknown → (t d y : ℕ) → Unknown ≡ hintNext h t d y
-next-unknown is t d y = ap (λ (g : Hint). hintNext g t d y) (sym is)
+      sym (ap (λ (a : Bool). cond a (candidates cpuPlaces (cond b y (few .new))) (candidates (few .fallen) y)) (eq-eqb (few .fallen) d e))
+      ∙ ap (λ (a : Bool). cond (eqb (few .fallen) d) (candidates cpuPlaces (cond a y (few .new))) (candidates (few .fallen) y)) (sym q)

@@ -9,7 +9,7 @@ use Prim.Native.Nat.{ℕ, zero, suc, _≤_, _<_}
 use native.Mathlib.Omega.{arith}
 use lib.Dec.{ltb}
 use Rattle.levels.specs.declared.record.Record.{Record}
-use Rattle.cpupri.specs.Found.{answerOf, allowedAt, lowestLevel, lowestFound, findChecks, unless, found}
+use Rattle.cpupri.specs.Found.{answerOf, allowedAt, lowestLevel, occupiedBelow, lowestFound, findChecks, unless, found}
 use Rattle.cpupri.specs.declared.find.Found.the-variants.{Cpus, Nothing}
 use Rattle.rules.specs.Machine.{Machine}
 use Rattle.rules.specs.Events.{Event, Kind, kindOf, byKind}
@@ -111,11 +111,12 @@ module _ (n : ℕ) (r : Record) (s : Tables) (e : Event) where
 -- ---- the finder's
 
 module _ (n : ℕ) (r : Record) (level mask : ℕ) where
-  find-number : found n r level mask .number ≡ firstFailing (findChecks n r level mask)
+  find-number : answerOf (found n r level mask) .number ≡ firstFailing (findChecks n r level mask)
   unfolding found lowestFound
   find-number = go (firstFailing (findChecks n r level mask)) (ltb (lowestLevel (r .masks) level mask) level)
     where
-      go : (a : ℕ) (b : Bool) → unless a (answerOf (cond b (Cpus (lowestLevel (r .masks) level mask) (allowedAt (r .masks) mask (lowestLevel (r .masks) level mask))) Nothing)) .number ≡ a
+      go : (a : ℕ) (b : Bool) → let l = lowestLevel (r .masks) level mask in
+          answerOf (unless a (cond b (Cpus l (allowedAt (r .masks) mask l) (occupiedBelow (r .masks) (suc l))) (Nothing (occupiedBelow (r .masks) level)))) .number ≡ a
       go zero true = refl
       go zero false = refl
       go (suc a) b = refl
@@ -124,8 +125,8 @@ module _ (n : ℕ) (r : Record) (level mask : ℕ) where
   unfolding findChecks
   rise = omega arith
 
-  pub find-refused-first : (k : ℕ) → 0 < k → found n r level mask .number ≡ k → First k (findChecks n r level mask)
+  pub find-refused-first : (k : ℕ) → 0 < k → answerOf (found n r level mask) .number ≡ k → First k (findChecks n r level mask)
   find-refused-first k p h = failing-first 1 (findChecks n r level mask) rise k p (sym find-number ∙ h)
 
-  pub first-find-refused : (k : ℕ) → First k (findChecks n r level mask) → found n r level mask .number ≡ k
+  pub first-find-refused : (k : ℕ) → First k (findChecks n r level mask) → answerOf (found n r level mask) .number ≡ k
   first-find-refused k f = find-number ∙ first-failing 1 (findChecks n r level mask) rise k f

@@ -1,4 +1,5 @@
--- The steps under way: the tables hold the machine that the steps so far lead to, and the log has their entries.
+-- The steps under way: the tables hold the machine that the steps so far lead to, and the log has their entries. What is known of that machine is
+-- a parameter: who can move, or which CPUs are below each level.
 -- Assumes nothing.
 use mathlib.Core.Path.{_≡_, refl, sym, ap, _∙_, subst}
 use mathlib.Core.Bool.{Bool, cond}
@@ -12,17 +13,17 @@ use lib.Seq.{sets}
 use Rattle.cpupri.specs.Record.{recordOf}
 use Rattle.levels.specs.declared.record.Record.{Record}
 use Rattle.rules.specs.Machine.{Machine, running, taskPlaces}
-use Rattle.rules.specs.Migration.{Move, Settled, next, migrate, settleAll}
+use Rattle.rules.specs.Migration.{Move, Chosen, Settled, next, migrate, settleAll}
 use Rattle.rules.specs.Outcome.{entryNumbers, entryWidth, logNumbers, logged}
 use Rattle.rules.specs.Tables.{flatOf, logPlaces, nothing}
 use Rattle.rules.specs.WellFormed.{WellFormed}
+use Rattle.laws.proofs.Choice.{chosen}
 use Rattle.laws.proofs.Log.{length-logged, logged-snoc}
 use Rattle.laws.proofs.Runs.{settled-stop}
+use Rattle.laws.proofs.Step.{origin-small}
 use Rattle.laws.specs.Limited.{orNothing}
 use Rattle.laws.proofs.Tables.{length-flat, flat-first}
 use Rattle.placement.specs.Held.{Held}
-use Rattle.hinting.specs.Hinted.{Hinted}
-use Rattle.hinting.specs.declared.hint.Hint.{Hint}
 use Rattle.choosing.specs.Choosing.{Choosing, stepOf}
 use Rattle.movelog.specs.Entry.{moveBy}
 use Rattle.movelog.specs.declared.Step.{Step}
@@ -46,9 +47,24 @@ none-taken {m} {ps} {cs} {ms} {ks} {flat} {old} {r} s h =
     subst (λ (q : Settled). Ended q ps cs ks flat old old 0 r) (sym (settled-stop m h))
     (record { held = s .held; cpus = s .cpus; moves = refl; logs = refl })
 
+-- ---- what a step is chosen from
+
+pub to-choose : {m : Machine} {n : ℕ} {ps cs ms ks flat : List ℕ} {r : Record} → Settling m ps cs ms ks flat r → n ≡ m .n
+    → Choosing m n ps cs ms ks flat (r .masks) (r .words) (r .levels)
+unfolding recordOf
+to-choose s h =
+    record {
+      looking = record { well = s .well; prio = s .held .prio; mask = s .masks; counts = s .held .counts; rows = s .held .rows };
+      cpus = h;
+      cpu = s .cpus;
+      masks = ap (λ (q : Record). q .masks) (s .held .levels);
+      words = ap (λ (q : Record). q .words) (s .held .levels);
+      levels = ap (λ (q : Record). q .levels) (s .held .levels);
+    }
+
 -- ---- the steps so far
 
-pub record Going (m : Machine) (ps cs ms ks flat old log : List ℕ) (k : ℕ) (r : Record) (h : Hint) : Type 0 where
+pub record Going (m : Machine) (ps cs ms ks flat old log : List ℕ) (k : ℕ) (r : Record) (Known : Machine → Type 0) : Type 0 where
   pub steps : List Move
   pub reached : Machine
   pub taken : Taken m steps reached
@@ -58,15 +74,15 @@ pub record Going (m : Machine) (ps cs ms ks flat old log : List ℕ) (k : ℕ) (
   pub moves : k ≡ length steps
   pub logs : log ≡ logged steps old
   -- what is known
-  pub hint : Hinted reached h
+  pub known : Known reached
 
-pub going-start : {m : Machine} {ps cs ms ks flat old : List ℕ} {r : Record} {h : Hint} → Settling m ps cs ms ks flat r → Hinted m h
-    → Going m ps cs ms ks flat old old 0 r h
+pub going-start : {m : Machine} {ps cs ms ks flat old : List ℕ} {r : Record} → Settling m ps cs ms ks flat r → (Known : Machine → Type 0) → Known m
+    → Going m ps cs ms ks flat old old 0 r Known
 unfolding logNumbers
-going-start {m} s known =
-    record { steps = []; reached = m; taken = begin; held = s .held; cpus = s .cpus; masks = s .masks; moves = refl; logs = refl; hint = known }
+going-start {m} s Known known =
+    record { steps = []; reached = m; taken = begin; held = s .held; cpus = s .cpus; masks = s .masks; moves = refl; logs = refl; known = known }
 
-module _ {m : Machine} (w : WellFormed m) {ps cs ms ks flat old log : List ℕ} {k : ℕ} {r : Record} {h : Hint} (g : Going m ps cs ms ks flat old log k r h) where
+module _ {m : Machine} (w : WellFormed m) {ps cs ms ks flat old log : List ℕ} {k : ℕ} {r : Record} {Known : Machine → Type 0} (g : Going m ps cs ms ks flat old log k r Known) where
   abbrev e : Machine
   e = g .reached
 
@@ -84,23 +100,23 @@ module _ {m : Machine} (w : WellFormed m) {ps cs ms ks flat old log : List ℕ} 
   pub more-few : {v : Move} → next e ≡ some v → suc k < m .n
   more-few {v} n = omega (arith, taken-few w (onto (g .taken) n), length-append (g .steps) (v ∷ []), g .moves)
 
+  -- the step that was chosen applies
+  pub applies : (s : Step) → stepOf s ≡ next e → (s .task ≡ nothing → ⊥) → next e ≡ some (moveBy s)
+  applies s is n = sym is ∙ step-some s n
+
+  module _ {v : Move} (n : next e ≡ some v) where
+    pub takes : Chosen e v
+    takes = chosen e v here n
+
+    pub target-small : v .target < m .n
+    target-small = subst (λ (i : ℕ). v .target < i) same-n (takes .small)
+
+    pub origin-low : v .origin < m .n
+    origin-low = subst (λ (i : ℕ). v .origin < i) same-n (origin-small e v here takes)
+
   -- what the next step is chosen from
-  pub choosing : {n : ℕ} → n ≡ m .n → Choosing e n ps cs ms ks flat (r .masks) (r .levels)
-  unfolding recordOf
-  choosing h =
-      record {
-        looking = record {
-          well = here;
-          prio = g .held .prio;
-          mask = g .masks;
-          counts = g .held .counts;
-          rows = g .held .rows;
-          levels = ap (λ (q : Record). q .masks) (g .held .levels);
-        };
-        cpus = h ∙ sym same-n;
-        cpu = g .cpus;
-        levels = ap (λ (q : Record). q .levels) (g .held .levels);
-      }
+  pub choosing : {n : ℕ} → n ≡ m .n → Choosing e n ps cs ms ks flat (r .masks) (r .words) (r .levels)
+  choosing h = to-choose (record { well = here; held = g .held; cpus = g .cpus; masks = g .masks }) (h ∙ sym same-n)
 
   -- no step applies: the steps have ended
   pub going-end : next e ≡ none → Ended (settleAll m) ps cs ks flat old log k r
@@ -115,10 +131,10 @@ module _ {m : Machine} (w : WellFormed m) {ps cs ms ks flat old log : List ℕ} 
       ∙ flat-first (e .rows) (g .held .order .fits) d (subst (λ (l : ℕ). d < l) (sym (g .held .order .rows)) h)
 
   -- one step more
-  pub going-on : {v : Move} → next e ≡ some v → entryWidth * suc k ≤ length old → {cs′ ks′ flat′ log′ : List ℕ} {r′ : Record} {h′ : Hint}
+  pub going-on : {v : Move} → next e ≡ some v → entryWidth * suc k ≤ length old → {cs′ ks′ flat′ log′ : List ℕ} {r′ : Record} (Known′ : Machine → Type 0)
       → Held (migrate v e) ps ks′ flat′ r′ → cs′ ≡ set cs (v .task) (v .target) → log′ ≡ sets log (k * entryWidth) (entryNumbers v)
-      → Hinted (migrate v e) h′ → Going m ps cs′ ms ks′ flat′ old log′ (k + 1) r′ h′
-  going-on {v} n h held ec el known =
+      → Known′ (migrate v e) → Going m ps cs′ ms ks′ flat′ old log′ (k + 1) r′ Known′
+  going-on {v} n h Known′ held ec el known =
       record {
         steps = g .steps ++ v ∷ [];
         reached = migrate v e;
@@ -128,7 +144,7 @@ module _ {m : Machine} (w : WellFormed m) {ps cs ms ks flat old log : List ℕ} 
         masks = g .masks;
         moves = ap (λ (i : ℕ). i + 1) (g .moves) ∙ sym (length-append (g .steps) (v ∷ []));
         logs = el ∙ ap (λ (q : List ℕ). sets q (k * entryWidth) (entryNumbers v)) (g .logs) ∙ logged-snoc (g .steps) v old k (g .moves) h;
-        hint = known;
+        known = known;
       }
 
   -- lengths stay

@@ -1,3 +1,4 @@
 -- The laws of the steps one after the other.
 pub mod Taken
 pub mod Going
+pub mod Told

@@ -7,18 +7,26 @@ ghost use Rattle.rules.specs.Machine.{Machine, taskPlaces};
 ghost use Rattle.rules.specs.Migration.{migrate, settleAll};
 ghost use Rattle.rules.specs.Tables.{logPlaces};
 ghost use Rattle.placement.specs.Held.{Held};
-ghost use Rattle.hinting.specs.Hinted.{Hinted};
+ghost use Rattle.hinting.specs.Hinted.{Hinted, Among};
 ghost use Rattle.movelog.specs.Entry.{moveBy};
 ghost use Rattle.migration.specs.Settling.{Settling, Stepping, Ended};
 use choosing::choose;
+use choosing::step_of;
+use cpupri::find::lowest_level;
 use cpupri::record::CPUS;
 use cpupri::record::LEVELS;
 use cpupri::record::WORDS;
+use cpupri::under::fill;
+use cpupri::under::rise;
+use hinting::hint::Candidates;
 use hinting::hint::Hint;
 use hinting::hint::after;
 use hinting::hint::nobody;
 use movelog::Step;
 use movelog::note;
+use mover::pick::pick;
+use mover::pick::waits_above;
+use mover::scan::Test;
 use runqueue::row::NOTHING;
 
 // Takes the steps of a machine of n CPUs, of which the hint is true, and says how many there were. There are at most n - 1, so the
@@ -45,13 +53,81 @@ pub fn settle(
         ⌜ ((m : Machine) → Settling m (old prio) (old cpu) (old mask) (old counts) (old rows) r → n ≡ m .n → Hinted m hint
         → Ended (settleAll m) (old prio) (new cpu) (new counts) (new rows) (old log) (new log) k s) ⌝ }
 {
-    if nobody(hint) {
+    match hint {
+        Hint::Unknown => search(
+            n,
+            prio,
+            cpu,
+            mask,
+            rows,
+            counts,
+            log,
+            masks,
+            tallies,
+            words,
+            levels,
+        ),
+        Hint::Few { fallen, new } => {
+            let few = Candidates { fallen, new };
+            follow(
+                few,
+                n,
+                prio,
+                cpu,
+                mask,
+                rows,
+                counts,
+                log,
+                masks,
+                tallies,
+                words,
+                levels,
+            )
+        }
+    }
+}
+
+// The steps where few can move: after each, who can is known again.
+fn follow(
+    few: Candidates,
+    n: usize,
+    prio: &[u8],
+    cpu: &mut [u8],
+    mask: &[u64],
+    rows: &mut [u16],
+    counts: &mut [u16],
+    log: &mut [u16],
+    masks: &mut [u64; LEVELS],
+    tallies: &mut [u8; LEVELS],
+    words: &mut [u64; WORDS],
+    levels: &mut [u8; CPUS],
+) -> usize
+    requires { let r = nowRecord masks tallies words levels in
+        ⌜ ((m : Machine) × (Settling m (now prio) (now cpu) (now mask) (now counts) (now rows) r × (n ≡ m .n) × Among m few)) ⌝ }
+    requires { ⌜ length (now log) ≡ logPlaces ⌝ }
+    ensures { λ k. let r = oldRecord masks tallies words levels in
+        let s = newRecord masks tallies words levels in
+        ⌜ ((m : Machine) → Settling m (old prio) (old cpu) (old mask) (old counts) (old rows) r → n ≡ m .n → Among m few
+        → Ended (settleAll m) (old prio) (new cpu) (new counts) (new rows) (old log) (new log) k s) ⌝ }
+{
+    if nobody(few) {
         return 0;
     }
     let mut moves = 0;
-    let mut known = hint;
+    let mut known = few;
     loop {
-        let step = choose(known, n, prio, cpu, mask, rows, counts, masks, levels);
+        let step = choose(
+            known,
+            n,
+            prio,
+            cpu,
+            mask,
+            rows,
+            counts,
+            masks,
+            words,
+            levels,
+        );
         if step.task == NOTHING {
             return moves;
         }
@@ -59,6 +135,51 @@ pub fn settle(
         note(log, moves, step);
         migrate(rows, counts, prio, cpu, masks, tallies, words, levels, step);
         moves += 1;
+    }
+}
+
+// The steps where nothing is known. Nobody can move who is not above the lowest level of any CPU, so that mostly no more than the first
+// waiting task of each row is looked at. Else the CPUs below each level are worked out once, and kept up in each step.
+fn search(
+    n: usize,
+    prio: &[u8],
+    cpu: &mut [u8],
+    mask: &[u64],
+    rows: &mut [u16],
+    counts: &mut [u16],
+    log: &mut [u16],
+    masks: &mut [u64; LEVELS],
+    tallies: &mut [u8; LEVELS],
+    words: &mut [u64; WORDS],
+    levels: &mut [u8; CPUS],
+) -> usize
+    requires { let r = nowRecord masks tallies words levels in
+        ⌜ ((m : Machine) × (Settling m (now prio) (now cpu) (now mask) (now counts) (now rows) r × (n ≡ m .n))) ⌝ }
+    requires { ⌜ length (now log) ≡ logPlaces ⌝ }
+    ensures { λ k. let r = oldRecord masks tallies words levels in
+        let s = newRecord masks tallies words levels in
+        ⌜ ((m : Machine) → Settling m (old prio) (old cpu) (old mask) (old counts) (old rows) r → n ≡ m .n
+        → Ended (settleAll m) (old prio) (new cpu) (new counts) (new rows) (old log) (new log) k s) ⌝ }
+{
+    let lowest = lowest_level(masks, words, LEVELS, u64::MAX) as u8;
+    if !waits_above(lowest, n, prio, rows, counts) {
+        return 0;
+    }
+    let mut under = [0; LEVELS];
+    fill(masks, &mut under);
+    let mut steps = 0;
+    loop {
+        let test = Test::Movable { lowest };
+        let task = pick(test, n, prio, mask, rows, counts, &under).task;
+        let step = step_of(task, prio, cpu, mask, masks, words);
+        if step.task == NOTHING {
+            return steps;
+        }
+        note(log, steps, step);
+        migrate(rows, counts, prio, cpu, masks, tallies, words, levels, step);
+        let target = step.target;
+        rise(&mut under, target, step.displaced, levels[target]);
+        steps += 1;
     }
 }
 

@@ -1,29 +1,29 @@
 -- The search along the rows: what the lent tables say of a row, and how one more row changes the best of those that pass the test.
 -- Assumes nothing.
 use mathlib.Core.Path.{_≡_, refl, sym, ap, _∙_, subst}
-use mathlib.Core.Bool.{Bool, true, false, cond, _&&_, _||_, false≢true}
+use mathlib.Core.Bool.{Bool, true, false, cond, not, _&&_, _||_, false≢true}
 use mathlib.Core.Logic.{_≢_, _⊎_, inl, inr}
 use mathlib.Core.List.{List, [], _∷_, tail}
 use Prim.Native.Nat.{ℕ, suc, _+_, _-_, _*_, _≤_, _<_}
 use native.Mathlib.Nat.{not-suc-le-zero, le-of-suc-le-suc}
 use native.Mathlib.Omega.{arith}
 use lib.Arith.{lt-of-le-ne}
+use lib.Bits.{bitAnd}
 use lib.Dec.{eqb, ltb, leb}
 use lib.ListN.{length, getD, take, drop}
 use lib.Seq.{getD-take}
 use borrow.Author.Tests.{ltb-true, ltb-false, eqb-true, eqb-false, ne-eqb, leb-true, leb-false}
 use Rattle.bits.proofs.Tests.{and-left, and-right, and-both, fails}
 use Rattle.cpupri.specs.Level.{levelOf}
-use Rattle.cpupri.specs.Found.{lowestLevel}
-use Rattle.cpupri.specs.Record.{recordOf, masksOf}
+use Rattle.cpupri.specs.Record.{recordOf}
 use Rattle.rules.specs.Lists.{In, Falling, place, occ}
 use Rattle.bits.specs.Bit.{bit}
-use Rattle.rules.specs.Machine.{Machine, taskOf, prioOf, row, levels, runnable, taskPlaces}
-use Rattle.rules.specs.Migration.{movable}
+use Rattle.rules.specs.Machine.{Machine, taskOf, prioOf, row, level, levels, allowed, runnable, taskPlaces, highestPriority}
 use Rattle.rules.specs.Tables.{nothing}
 use Rattle.rules.specs.WellFormed.{WellFormed, Fit}
 use Rattle.laws.proofs.Apart.{in-row, once, runnable-fit, runnable-place}
-use Rattle.laws.proofs.Finder.{movable-found, found-movable}
+use Rattle.laws.proofs.Choice.{movable-one}
+use Rattle.laws.proofs.Finder.{lower-movable}
 use Rattle.laws.proofs.Lists.{in-there, in-getD, occ-cons, digit-same, not-in-nil, falling-at}
 use Rattle.laws.proofs.Order.{place-lt, place-there, place-is}
 use Rattle.runqueue.specs.Row.{ahead}
@@ -33,8 +33,8 @@ use Rattle.runqueue.proofs.Queued.{row-size}
 use Rattle.runqueue.proofs.Flat.{count-is, rows-fit, part-held, part-taken, place-at, as-counted}
 use Rattle.placement.specs.Held.{Held}
 use Rattle.placement.proofs.Order.{well-formed-order, holds, read-row, cpus-counted, above}
-use Rattle.mover.specs.Wanted.{meant, passing, least, wanted, Searchable}
-use Rattle.mover.specs.Foremost.{Looking, BestOf}
+use Rattle.mover.specs.Wanted.{meant, Told, passing, least, wanted, Searchable}
+use Rattle.mover.specs.Foremost.{Looking, BestOf, NoneAbove}
 use Rattle.mover.specs.Waiting.{NextWaiting}
 use Rattle.mover.specs.declared.pick.Mover.{Mover}
 use Rattle.mover.specs.declared.scan.Test.{Test}
@@ -91,26 +91,14 @@ tail-reach r at l = go (length-tail r)
     go (inr z) = absurd (let e : length r ≡ 0 = ap length z in omega arith)
 
 -- rows below c + 1: those below c, and row c
-below-next : (c : ℕ) (P : ℕ → Type 0) → ((d : ℕ) → d < c → P d) → P c → (d : ℕ) → d < suc c → P d
+pub below-next : (c : ℕ) (P : ℕ → Type 0) → ((d : ℕ) → d < c → P d) → P c → (d : ℕ) → d < suc c → P d
 below-next c P old new d h = go (eqb d c) refl
   where
     go : (b : Bool) → eqb d c ≡ b → P d
     go true e = subst P (sym (eqb-true d c e)) new
     go false e = let n = eqb-false d c e in old d (lt-of-le-ne (le-of-suc-le-suc h) n)
 
--- the finder's answer is the rules'
-pub found-is : (m : Machine) → WellFormed m → (u : ℕ) → Fit (m .n) (m .full) (taskOf m u)
-    → ltb (lowestLevel (masksOf (levels m)) (levelOf (prioOf m u)) (taskOf m u .mask)) (levelOf (prioOf m u)) ≡ movable m u
-found-is m w u fit = go (ltb (lowestLevel (masksOf (levels m)) (levelOf (prioOf m u)) (taskOf m u .mask)) (levelOf (prioOf m u))) refl
-  where
-    contra : {a b : ℕ} → a < b → b ≤ a → ⊥
-    contra p q = omega arith
-
-    go : (b : Bool) → ltb (lowestLevel (masksOf (levels m)) (levelOf (prioOf m u)) (taskOf m u .mask)) (levelOf (prioOf m u)) ≡ b → b ≡ movable m u
-    go true e = sym (found-movable m w u fit (ltb-true _ _ e))
-    go false e = sym (fails (movable m u) (λ t. contra (movable-found m w u fit t) (ltb-false _ _ e)))
-
-module _ {m : Machine} {ps ms ks flat masks : List ℕ} (k : Looking m ps ms ks flat masks) where
+module _ {m : Machine} {ps ms ks flat : List ℕ} (k : Looking m ps ms ks flat) where
   looking-held : Held m ps ks flat (recordOf (levels m))
   looking-held = record { order = well-formed-order m (k .well); prio = k .prio; counts = k .counts; rows = k .rows; levels = refl }
 
@@ -151,6 +139,10 @@ module _ {m : Machine} {ps ms ks flat masks : List ℕ} (k : Looking m ps ms ks 
     stored-small i h =
         subst (λ (u : ℕ). u < taskPlaces) (sym (stored-at i h)) (above m ps ks flat (recordOf (levels m)) looking-held c (getD (row m c) i 0) (task-in i h) .0)
 
+    pub stored-high : (i : ℕ) → i < getD ks c 0 → getD ps (getD flat (c * taskPlaces + i) 0) 0 ≤ highestPriority
+    stored-high i h =
+        subst (λ (u : ℕ). getD ps u 0 ≤ highestPriority) (sym (stored-at i h)) (above m ps ks flat (recordOf (levels m)) looking-held c (getD (row m c) i 0) (task-in i h) .1)
+
     -- a walk along the row's part, for any test
     module _ (p : ℕ → Bool) (at : ℕ) (is : at ≡ suc (ahead p (tail (take (getD ks c 0) (take (c * 512 + 512 - c * 512) (drop (c * 512) flat)))))) where
       scanned : at ≡ suc (ahead p (tail (row m c)))
@@ -187,24 +179,26 @@ module _ {m : Machine} {ps ms ks flat masks : List ℕ} (k : Looking m ps ms ks 
       a-task : u ≢ nothing
       a-task e = let small : u < taskPlaces = runnable-place m u (k .well) runs in omega arith
 
-      passing-is : (test : Test) → passing test (masksOf (levels m)) u (prioOf m u) (taskOf m u .mask) ≡ meant m test u
+      passing-is : (test : Test) (under : List ℕ) → Told m test under → passing test under u (prioOf m u) (taskOf m u .mask) ≡ meant m test u
       unfolding passing
-      passing-is Movable = found-is m (k .well) u fit
-      passing-is (Drawn d l new) = refl
+      passing-is (Movable low) under told =
+          ap (λ (us : List ℕ). not (eqb (bitAnd (getD us (levelOf (prioOf m u)) 0) (taskOf m u .mask)) 0)) (told .0) ∙ lower-movable m (k .well) u fit
+      passing-is (Drawn d l new) under told = refl
 
-      -- by the columns and the record's masks the test says what is meant
-      wanted-is : (test : Test) (floor : ℕ) → wanted test masks ps ms floor u ≡ (ltb floor (prioOf m u) && meant m test u)
+      -- by the columns and the CPUs below each level the test says what is meant
+      wanted-is : (test : Test) (under : List ℕ) → Told m test under → (floor : ℕ) → wanted test under ps ms floor u ≡ (ltb floor (prioOf m u) && meant m test u)
       unfolding wanted
-      wanted-is test floor =
-          ap (λ (qs : List ℕ). ltb floor (getD qs u 0) && passing test masks u (getD qs u 0) (getD ms u 0)) (k .prio)
-          ∙ ap (λ (qs : List ℕ). ltb floor (prioOf m u) && passing test masks u (prioOf m u) (getD qs u 0)) (k .mask)
-          ∙ ap (λ (qs : List ℕ). ltb floor (prioOf m u) && passing test qs u (prioOf m u) (taskOf m u .mask)) (k .levels)
-          ∙ ap (λ (b : Bool). ltb floor (prioOf m u) && b) (passing-is test)
+      wanted-is test under told floor =
+          ap (λ (qs : List ℕ). ltb floor (getD qs u 0) && passing test under u (getD qs u 0) (getD ms u 0)) (k .prio)
+          ∙ ap (λ (qs : List ℕ). ltb floor (prioOf m u) && passing test under u (prioOf m u) (getD qs u 0)) (k .mask)
+          ∙ ap (λ (b : Bool). ltb floor (prioOf m u) && b) (passing-is test under told)
 
       -- and who passes is above the least priority
-      above-least : (test : Test) → meant m test u ≡ true → least test < prioOf m u
-      above-least Movable t = fit .prio-low
-      above-least (Drawn d l new) t = go (eqb new nothing) refl
+      above-least : (test : Test) (under : List ℕ) → Told m test under → meant m test u ≡ true → least test < prioOf m u
+      above-least (Movable low) under told t =
+          let f : (c : ℕ) × (c < m .n) × (allowed m u c ≡ true) × (level m c < levelOf (prioOf m u)) = movable-one m u t in
+          omega (arith, told .1 (f .0) (f .1), f .3, fit .prio-low)
+      above-least (Drawn d l new) under told t = go (eqb new nothing) refl
         where
           other : (x : ℕ) (y : Bool) → x ≡ nothing → (eqb u x || y) ≡ true → y ≡ true
           other x y e h = sym (ap (λ (b : Bool). b || y) (ne-eqb u x (λ q. a-task (q ∙ e)))) ∙ h
@@ -216,17 +210,17 @@ module _ {m : Machine} {ps ms ks flat masks : List ℕ} (k : Looking m ps ms ks 
               omega (arith, fit .prio-low)
           go false e = fit .prio-low
 
-  module _ (test : Test) (c : ℕ) (hc : c < m .n) where
+  module _ (test : Test) (under : List ℕ) (told : Told m test under) (c : ℕ) (hc : c < m .n) where
     -- who passes and is not wanted is not above the floor
-    not-above : (floor u : ℕ) → In u (row m c) → wanted test masks ps ms floor u ≡ false → meant m test u ≡ true → prioOf m u ≤ floor
+    not-above : (floor u : ℕ) → In u (row m c) → wanted test under ps ms floor u ≡ false → meant m test u ≡ true → prioOf m u ≤ floor
     not-above floor u i e t = go (ltb floor (prioOf m u)) refl
       where
         go : (b : Bool) → ltb floor (prioOf m u) ≡ b → prioOf m u ≤ floor
-        go true q = absurd (false≢true (sym e ∙ wanted-is c hc u i test floor ∙ and-both (ltb floor (prioOf m u)) (meant m test u) q t))
+        go true q = absurd (false≢true (sym e ∙ wanted-is c hc u i test under told floor ∙ and-both (ltb floor (prioOf m u)) (meant m test u) q t))
         go false q = ltb-false floor (prioOf m u) q
 
     -- nothing in this row is wanted: the best stays
-    keep-best : (b : Mover) → BestOf (meant m test) m c b → ((u : ℕ) → In u (tail (row m c)) → wanted test masks ps ms (b .priority) u ≡ false) → BestOf (meant m test) m (suc c) b
+    keep-best : (b : Mover) → BestOf (meant m test) m c b → ((u : ℕ) → In u (tail (row m c)) → wanted test under ps ms (b .priority) u ≡ false) → BestOf (meant m test) m (suc c) b
     keep-best b best none =
         record {
           none = λ z. below-next c (λ (d : ℕ). (u : ℕ) → In u (tail (row m d)) → meant m test u ≡ false) (λ d h u i. best .none z d h u i)
@@ -250,7 +244,7 @@ module _ {m : Machine} {ps ms ks flat masks : List ℕ} (k : Looking m ps ms ks 
         }
 
     -- a task of this row is wanted, and none before it: it is the best
-    module _ (b : Mover) (best : BestOf (meant m test) m c b) (a : ℕ) (is : a ≡ ahead (wanted test masks ps ms (b .priority)) (tail (row m c))) (in-reach : a < length (tail (row m c))) where
+    module _ (b : Mover) (best : BestOf (meant m test) m c b) (a : ℕ) (is : a ≡ ahead (wanted test under ps ms (b .priority)) (tail (row m c))) (in-reach : a < length (tail (row m c))) where
       abbrev queue : List ℕ
       queue = tail (row m c)
 
@@ -269,9 +263,9 @@ module _ {m : Machine} {ps ms ks flat masks : List ℕ} (k : Looking m ps ms ks 
 
       is-wanted : (ltb (b .priority) (prioOf m task) && meant m test task) ≡ true
       is-wanted =
-          sym (wanted-is c hc task (tail-in task (row m c) task-waits) test (b .priority))
-          ∙ subst (λ (i : ℕ). wanted test masks ps ms (b .priority) (getD queue i 0) ≡ true) (sym is)
-          (ahead-here (wanted test masks ps ms (b .priority)) queue (subst (λ (i : ℕ). i < length queue) is in-reach))
+          sym (wanted-is c hc task (tail-in task (row m c) task-waits) test under told (b .priority))
+          ∙ subst (λ (i : ℕ). wanted test under ps ms (b .priority) (getD queue i 0) ≡ true) (sym is)
+          (ahead-here (wanted test under ps ms (b .priority)) queue (subst (λ (i : ℕ). i < length queue) is in-reach))
 
       higher : b .priority < prioOf m task
       higher = ltb-true (b .priority) (prioOf m task) (and-left (ltb (b .priority) (prioOf m task)) (meant m test task) is-wanted)
@@ -284,9 +278,9 @@ module _ {m : Machine} {ps ms ks flat masks : List ℕ} (k : Looking m ps ms ks 
           go true e = leb-true a (place u queue) e
           go false e =
               let before : place u queue < a = leb-false a (place u queue) e in
-              let not-wanted : wanted test masks ps ms (b .priority) u ≡ false =
-              ap (wanted test masks ps ms (b .priority)) (sym (place-is u queue i))
-              ∙ ahead-before (wanted test masks ps ms (b .priority)) queue (place u queue) (subst (λ (x : ℕ). place u queue < x) is before) in
+              let not-wanted : wanted test under ps ms (b .priority) u ≡ false =
+              ap (wanted test under ps ms (b .priority)) (sym (place-is u queue i))
+              ∙ ahead-before (wanted test under ps ms (b .priority)) queue (place u queue) (subst (λ (x : ℕ). place u queue < x) is before) in
               let low : prioOf m u ≤ b .priority = not-above (b .priority) u (tail-in u (row m c) i) not-wanted t in
               absurd (let h : b .priority < prioOf m task = higher in omega arith)
 
@@ -347,12 +341,12 @@ module _ {m : Machine} {ps ms ks flat masks : List ℕ} (k : Looking m ps ms ks 
 
     -- the scan of the row, for a task above the best so far
     module _ (b : Mover) (best : BestOf (meant m test) m c b) (at : ℕ)
-        (is : at ≡ suc (ahead (wanted test masks ps ms (b .priority)) (tail (take (getD ks c 0) (take (c * 512 + 512 - c * 512) (drop (c * 512) flat)))))) where
+        (is : at ≡ suc (ahead (wanted test under ps ms (b .priority)) (tail (take (getD ks c 0) (take (c * 512 + 512 - c * 512) (drop (c * 512) flat)))))) where
       -- it came to the end: the best stays
       pub kept : at ≡ getD ks c 0 → BestOf (meant m test) m (suc c) b
       kept e =
           keep-best b best
-          (none-wanted (wanted test masks ps ms (b .priority)) (row m c) (sym (scanned c hc (wanted test masks ps ms (b .priority)) at is) ∙ e ∙ row-count c hc))
+          (none-wanted (wanted test under ps ms (b .priority)) (row m c) (sym (scanned c hc (wanted test under ps ms (b .priority)) at is) ∙ e ∙ row-count c hc))
 
       -- it ended before: the task there is the best
       pub beaten : at < getD ks c 0 → (new : Mover) → new .task ≡ getD flat (c * 512 + at) 0 → new .origin ≡ c
@@ -361,8 +355,8 @@ module _ {m : Machine} {ps ms ks flat masks : List ℕ} (k : Looking m ps ms ks 
           new-best b best (at - 1) (omega (arith, here-is)) (tail-reach (row m c) (at - 1) (omega (arith, first, row-count c hc))) new (et ∙ found) eo
           (ep ∙ ap (λ (u : ℕ). getD ps u 0) found ∙ ap (λ (qs : List ℕ). getD qs (getD (tail (row m c)) (at - 1) 0) 0) (k .prio))
         where
-          here-is : at ≡ suc (ahead (wanted test masks ps ms (b .priority)) (tail (row m c)))
-          here-is = scanned c hc (wanted test masks ps ms (b .priority)) at is
+          here-is : at ≡ suc (ahead (wanted test under ps ms (b .priority)) (tail (row m c)))
+          here-is = scanned c hc (wanted test under ps ms (b .priority)) at is
 
           first : suc (at - 1) ≡ at
           first = omega (arith, here-is)
@@ -371,11 +365,11 @@ module _ {m : Machine} {ps ms ks flat masks : List ℕ} (k : Looking m ps ms ks 
           found = stored-at c hc at l ∙ ap (λ (i : ℕ). getD (row m c) i 0) (sym first) ∙ sym (getD-tail (row m c) (at - 1))
 
   -- before the first row: no task, and the least priority
-  pub no-best : (test : Test) (b : Mover) → b .task ≡ nothing → b .priority ≡ least test → BestOf (meant m test) m 0 b
-  no-best test b none low =
+  pub no-best : (test : Test) (under : List ℕ) → Told m test under → (b : Mover) → b .task ≡ nothing → b .priority ≡ least test → BestOf (meant m test) m 0 b
+  no-best test under told b none low =
       record {
         none = λ z d h. absurd (not-suc-le-zero h);
-        floor = λ z d h u i t. subst (λ (p : ℕ). p < prioOf m u) (sym low) (above-least d h u (tail-in u (row m d) i) test t);
+        floor = λ z d h u i t. subst (λ (p : ℕ). p < prioOf m u) (sym low) (above-least d h u (tail-in u (row m d) i) test under told t);
         some = λ n. absurd (n none);
       }
 
@@ -407,3 +401,33 @@ module _ {m : Machine} {ps ms ks flat masks : List ℕ} (k : Looking m ps ms ks 
               let few : getD ks d 0 < 2 = next .none d l (ltb-false d c e) in
               let size-is : getD ks d 0 ≡ length (row m d) = row-count d (omega (arith, next .most)) in
               absurd (short (row m d) u (omega arith) i)
+
+  -- ---- who is above a level
+
+  -- a row's first waiting task is not: none of the row is
+  pub row-low : (c : ℕ) → c < m .n → 2 ≤ getD ks c 0 → (l : ℕ) → levelOf (getD ps (getD flat (c * taskPlaces + 1) 0) 0) ≤ l
+      → (u : ℕ) → In u (tail (row m c)) → levelOf (prioOf m u) ≤ l
+  row-low c hc two l h u i =
+      let size : getD ks c 0 ≡ length (row m c) = row-count c hc in
+      let first : getD flat (c * taskPlaces + 1) 0 ≡ getD (row m c) 1 0 = stored-at c hc 1 (omega arith) in
+      let low : levelOf (prioOf m (getD (row m c) 1 0)) ≤ l =
+      subst (λ (qs : List ℕ). levelOf (getD qs (getD (row m c) 1 0) 0) ≤ l) (k .prio) (subst (λ (t : ℕ). levelOf (getD ps t 0) ≤ l) first h) in
+      let at-u : getD (row m c) (suc (place u (tail (row m c)))) 0 ≡ u = sym (getD-tail (row m c) (place u (tail (row m c)))) ∙ place-is u (tail (row m c)) i in
+      let falls : prioOf m (getD (row m c) (suc (place u (tail (row m c)))) 0) ≤ prioOf m (getD (row m c) 1 0) =
+      falling-at (prioOf m) (row m c) (k .well .falling c) 1 (suc (place u (tail (row m c)))) (omega arith) (inside (length-tail (row m c))) in
+      omega (arith, ap (prioOf m) at-u)
+    where
+      inside : (length (row m c) ≡ suc (length (tail (row m c)))) ⊎ (row m c ≡ []) → suc (place u (tail (row m c))) < length (row m c)
+      inside (inl s) = omega (arith, place-lt u (tail (row m c)) i)
+      inside (inr z) = absurd (not-in-nil u (subst (λ (q : List ℕ). In u (tail q)) z i))
+
+  -- one row more, and then some in which nobody waits
+  pub skip-low : (l c n r : ℕ) → n ≡ m .n → NextWaiting ks c n r → NoneAbove m l c → NoneAbove m l r
+  skip-low l c n r size next none d h u i = go (ltb d c) refl
+    where
+      go : (x : Bool) → ltb d c ≡ x → levelOf (prioOf m u) ≤ l
+      go true e = none d (ltb-true d c e) u i
+      go false e =
+          let few : getD ks d 0 < 2 = next .none d h (ltb-false d c e) in
+          let size-is : getD ks d 0 ≡ length (row m d) = row-count d (omega (arith, next .most)) in
+          absurd (short (row m d) u (omega arith) i)

@@ -5,21 +5,20 @@ use mathlib.Core.Bool.{Bool, true, false}
 use mathlib.Core.List.{List, tail}
 use mathlib.Core.Logic.{_≢_}
 use Prim.Native.Nat.{ℕ, _≤_, _<_}
-use Rattle.cpupri.specs.Record.{masksOf}
+use Rattle.cpupri.specs.Level.{levelOf}
 use Rattle.rules.specs.Lists.{In, place}
-use Rattle.rules.specs.Machine.{Machine, prioOf, row, levels}
+use Rattle.rules.specs.Machine.{Machine, prioOf, row}
 use Rattle.rules.specs.Tables.{flatOf, rowCounts, nothing}
 use Rattle.rules.specs.WellFormed.{WellFormed}
 use Rattle.mover.specs.declared.pick.Mover.{Mover}
 
--- the lent tables hold the machine m: priorities, affinity masks, counts and rows; and the record's masks its levels
-pub record Looking (m : Machine) (ps ms ks flat masks : List ℕ) : Type 0 where
+-- the lent tables hold the machine m: priorities, affinity masks, counts and rows
+pub record Looking (m : Machine) (ps ms ks flat : List ℕ) : Type 0 where
   pub well : WellFormed m
   pub prio : ps ≡ m .prio
   pub mask : ms ≡ m .mask
   pub counts : ks ≡ rowCounts (m .rows)
   pub rows : flat ≡ flatOf (m .rows)
-  pub levels : masks ≡ masksOf (levels m)
 
 -- b is the task of highest priority that waits in the rows below c and passes the test q; among equals the one on the lowest-numbered CPU; among
 -- those the earliest in the row
@@ -38,3 +37,7 @@ pub record BestOf (q : ℕ → Bool) (m : Machine) (c : ℕ) (b : Mover) : Type 
   pub none : b .task ≡ nothing → (d : ℕ) → d < c → (u : ℕ) → In u (tail (row m d)) → q u ≡ false
   pub floor : b .task ≡ nothing → (d : ℕ) → d < m .n → (u : ℕ) → In u (tail (row m d)) → q u ≡ true → b .priority < prioOf m u
   pub some : b .task ≢ nothing → Foremost q m c b
+
+-- of those who wait in the rows below c none is above the level l
+abbrev pub NoneAbove : Machine → ℕ → ℕ → Type 0
+NoneAbove m l c = (d : ℕ) → d < c → (u : ℕ) → In u (tail (row m d)) → levelOf (prioOf m u) ≤ l

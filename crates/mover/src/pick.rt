@@ -1,15 +1,18 @@
 // The foremost of the waiting tasks that pass a test: that of highest priority, among equals the one on the
 // lowest-numbered CPU, and among those the earliest in its row.
 ghost use mathlib.Core.Path.{_≡_};
-ghost use Prim.Native.Nat.{suc, _≤_, _<_};
+ghost use mathlib.Core.Bool.{false};
+ghost use Prim.Native.Nat.{suc, _-_, _≤_, _<_};
 ghost use lib.ListN.{getD};
 ghost use Rattle.bits.specs.Moments.{old};
 ghost use Rattle.rules.specs.Machine.{Machine};
-ghost use Rattle.mover.specs.Foremost.{Looking, BestOf};
+ghost use Rattle.cpupri.specs.Level.{levelOf};
+ghost use Rattle.mover.specs.Foremost.{Looking, BestOf, NoneAbove};
 ghost use Rattle.mover.specs.Waiting.{NextWaiting};
-ghost use Rattle.mover.specs.Wanted.{Asked, meant, least as leastOf};
+ghost use Rattle.mover.specs.Wanted.{Asked, Told, meant, least as leastOf};
 use super::scan::Test;
 use super::scan::scan;
+use cpupri::level::Level;
 use cpupri::record::LEVELS;
 use runqueue::row::NOTHING;
 use runqueue::row::PLACES;
@@ -22,7 +25,8 @@ pub struct Mover {
     pub priority: u8,
 }
 
-// Of a machine of n CPUs. A row is left at the first task that cannot beat the best so far.
+// Of a machine of n CPUs. A row is left at the first task that cannot beat the best so far. `under` has the CPUs below each level; it is
+// read for a test of `Movable` only.
 pub fn pick(
     test: Test,
     n: usize,
@@ -30,11 +34,11 @@ pub fn pick(
     mask: &[u64],
     rows: &[u16],
     counts: &[u16],
-    masks: &[u64; LEVELS],
+    under: &[u64; LEVELS],
 ) -> Mover
     requires { ⌜ Asked test ⌝ }
-    requires { ⌜ ((m : Machine) × (Looking m (now prio) (now mask) (now counts) (now rows) (now masks) × (n ≡ m .n))) ⌝ }
-    ensures { λ r. ⌜ ((m : Machine) → Looking m (old prio) (old mask) (old counts) (old rows) (old masks) → n ≡ m .n
+    requires { ⌜ ((m : Machine) × (Looking m (now prio) (now mask) (now counts) (now rows) × (n ≡ m .n))) ⌝ }
+    ensures { λ r. ⌜ ((m : Machine) → Looking m (old prio) (old mask) (old counts) (old rows) → Told m test (old under) → n ≡ m .n
         → BestOf (meant m test) m n r) ⌝ }
 {
     let mut best = Mover {
@@ -44,7 +48,7 @@ pub fn pick(
     };
     let mut cpu = next_waiting(counts, 0, n);
     while cpu < n {
-        best = better(test, best, cpu, prio, mask, rows, counts, masks);
+        best = better(test, best, cpu, prio, mask, rows, counts, under);
         cpu = next_waiting(counts, cpu + 1, n);
     }
     best
@@ -55,14 +59,41 @@ fn least(test: Test) -> u8
     ensures { λ r. ⌜ r ≡ leastOf test ⌝ }
 {
     match test {
-        Test::Movable => 0,
+        Test::Movable { lowest } => priority_at(lowest),
         Test::Drawn { cpu: _, level, new } => {
-            if (new == NOTHING) & (2 < level) {
-                return level - 2;
+            if new == NOTHING {
+                return priority_at(level);
             }
             0
         }
     }
+}
+
+// The priority that is at this level; 0 if none is.
+fn priority_at(level: u8) -> u8
+    ensures { λ r. ⌜ r ≡ level - levelOf 0 ⌝ }
+{
+    if 2 < level {
+        return level - 2;
+    }
+    0
+}
+
+// Whether some waiting task may be above the level. If not, none is: a row's first waiting task is its highest.
+pub fn waits_above(level: u8, n: usize, prio: &[u8], rows: &[u16], counts: &[u16]) -> bool
+    requires { ⌜ ((m : Machine) × (Looking m (now prio) (m .mask) (now counts) (now rows) × (n ≡ m .n))) ⌝ }
+    ensures { λ b. ⌜ ((m : Machine) → Looking m (old prio) (m .mask) (old counts) (old rows) → n ≡ m .n → b ≡ false
+        → NoneAbove m level n) ⌝ }
+{
+    let mut cpu = next_waiting(counts, 0, n);
+    while cpu < n {
+        let first = rows[cpu * PLACES + 1];
+        if level < Level::of_priority(prio[first as usize]).number {
+            return true;
+        }
+        cpu = next_waiting(counts, cpu + 1, n);
+    }
+    false
 }
 
 // The first CPU on which a task waits, from the CPU `from` on; n if there is none.
@@ -106,12 +137,12 @@ fn better(
     mask: &[u64],
     rows: &[u16],
     counts: &[u16],
-    masks: &[u64; LEVELS],
+    under: &[u64; LEVELS],
 ) -> Mover
     requires { ⌜ Asked test ⌝ }
-    requires { ⌜ ((m : Machine) × (Looking m (now prio) (now mask) (now counts) (now rows) (now masks)
+    requires { ⌜ ((m : Machine) × (Looking m (now prio) (now mask) (now counts) (now rows)
         × (cpu < m .n) × (2 ≤ getD (now counts) cpu 0))) ⌝ }
-    ensures { λ r. ⌜ ((m : Machine) → Looking m (old prio) (old mask) (old counts) (old rows) (old masks)
+    ensures { λ r. ⌜ ((m : Machine) → Looking m (old prio) (old mask) (old counts) (old rows) → Told m test (old under)
         → cpu < m .n → BestOf (meant m test) m cpu best → BestOf (meant m test) m (suc cpu) r) ⌝ }
 {
     let count = counts[cpu] as usize;
@@ -122,7 +153,7 @@ fn better(
         &rows[start..start + PLACES],
         prio,
         mask,
-        masks,
+        under,
         count,
         floor,
     );

@@ -7,14 +7,13 @@ ghost use Rattle.bits.specs.Moments.{old};
 ghost use Rattle.rules.specs.Machine.{highestPriority};
 ghost use Rattle.runqueue.specs.Row.{ahead};
 ghost use Rattle.mover.specs.Wanted.{Asked, passing, wanted, Searchable};
-use cpupri::find::lowest_level;
 use cpupri::level::Level;
 use cpupri::record::LEVELS;
 
 // Who is looked for among the waiting tasks.
 pub enum Test {
-    // who has an allowed CPU below its level
-    Movable,
+    // who has an allowed CPU below its level, by the CPUs below each level; no CPU is below the level `lowest`
+    Movable { lowest: u8 },
     // who may use the CPU `cpu`, whose level `level` is below its own; and the task `new`
     Drawn { cpu: usize, level: u8, new: u16 },
 }
@@ -26,13 +25,13 @@ pub fn scan(
     row: &[u16],
     prio: &[u8],
     mask: &[u64],
-    masks: &[u64; LEVELS],
+    under: &[u64; LEVELS],
     count: usize,
     floor: u8,
 ) -> usize
     requires { ⌜ Asked test ⌝ }
     requires { ⌜ Searchable (now prio) (now mask) (now row) count ⌝ }
-    ensures { λ r. ⌜ r ≡ suc (ahead (wanted test (old masks) (old prio) (old mask) floor) (tail (take count (old row)))) ⌝ }
+    ensures { λ r. ⌜ r ≡ suc (ahead (wanted test (old under) (old prio) (old mask) floor) (tail (take count (old row)))) ⌝ }
 {
     let mut at = 1;
     while at < count {
@@ -42,7 +41,7 @@ pub fn scan(
         if priority <= floor {
             return count;
         }
-        if passes(test, masks, task, priority, mask[place]) {
+        if passes(test, under, task, priority, mask[place]) {
             return at;
         }
         at += 1;
@@ -51,17 +50,14 @@ pub fn scan(
 }
 
 // Whether a task of this priority and mask passes the test.
-fn passes(test: Test, masks: &[u64; LEVELS], task: u16, priority: u8, mask: u64) -> bool
+fn passes(test: Test, under: &[u64; LEVELS], task: u16, priority: u8, mask: u64) -> bool
     requires { ⌜ Asked test ⌝ }
     requires { ⌜ priority ≤ highestPriority ⌝ }
-    ensures { λ b. ⌜ b ≡ passing test (old masks) task priority mask ⌝ }
+    ensures { λ b. ⌜ b ≡ passing test (old under) task priority mask ⌝ }
 {
     let own = Level::of_priority(priority).number;
     match test {
-        Test::Movable => {
-            let below = own as usize;
-            lowest_level(masks, below, mask) < below
-        }
+        Test::Movable { lowest: _ } => under[own as usize] & mask != 0,
         Test::Drawn { cpu, level, new } => (task == new)
             | (bits::test_bit(mask, cpu) & (level < own)),
     }

@@ -1,23 +1,19 @@
 -- `choosing::step_of` meets its contract.
 -- Assumes nothing.
 use borrow.Author.Needs.{needs}
-use mathlib.Core.Path.{_≡_, refl, sym, ap, _∙_}
-use mathlib.Core.Bool.{Bool, true, false, cond}
+use mathlib.Core.Path.{_≡_, refl, sym, ap, ap₂, _∙_}
+use mathlib.Core.Bool.{Bool, cond}
+use mathlib.Core.Logic.{_≢_}
 use mathlib.Core.List.{List}
-use mathlib.Core.Logic.{_≢_, _⊎_, inl, inr}
 use mathlib.Core.Option.{Option, none, some}
 use Prim.Native.Nat.{ℕ, _≤_, _<_}
 use native.Mathlib.Omega.{arith}
-use lib.Dec.{ltb}
+use lib.Dec.{eqb, ltb}
 use lib.ListN.{getD}
-use borrow.Author.Tests.{eq-eqb, ne-eqb}
-use denote.Enum.Declared.{tagOf}
+use borrow.Author.Tests.{ne-eqb, lt-ltb, le-ltb}
 use Rattle.bits.specs.Bit.{lowest}
 use Rattle.cpupri.specs.Level.{levelOf}
-use Rattle.cpupri.specs.Found.{lowestLevel, allowedAt, lowestFound}
-use Rattle.cpupri.proofs.find.Found.{the-type}
-use Rattle.cpupri.specs.declared.find.Found.{Found}
-use Rattle.cpupri.specs.declared.find.Found.the-variants.{Cpus, Nothing, Refused}
+use Rattle.cpupri.specs.Found.{lowestLevel, allowedAt}
 use Rattle.rules.specs.Machine.{taskPlaces, highestPriority}
 use Rattle.rules.specs.Migration.{Move}
 use Rattle.rules.specs.Tables.{nothing}
@@ -28,29 +24,17 @@ use Rattle.choosing.proofs.step_of.Tie as tie
 use Rattle.choosing.proofs.step_of.Proof.Paths as at
 mod Paths
 
--- the step of task t from CPU o that the finder's answer gives
-abbrev stepFound : ℕ → ℕ → Found → Option Move
-stepFound t o (Cpus l k) = some (record { task = t; origin = o; target = lowest 64 k; displaced = l })
-stepFound t o Nothing = none
-stepFound t o (Refused r) = none
+-- the step of a task, by the level x that it is asked below and the level l that is found
+module _ (masks ps cs ms : List ℕ) (t : ℕ) (task : t ≢ nothing) (x : ℕ) (own : x ≡ levelOf (getD ps t 0)) (l : ℕ) (is : l ≡ lowestLevel masks x (getD ms t 0)) where
+  abbrev move : ℕ → Move
+  move i = record { task = t; origin = getD cs t 0; target = lowest 64 (allowedAt masks (getD ms t 0) i); displaced = i }
 
--- none, unless the answer has CPUs
-no-cpus : (t o : ℕ) (g : Found) → (tagOf the-type g ≡ 1) ⊎ (tagOf the-type g ≡ 2) → none ≡ stepFound t o g
-no-cpus t o (Cpus l k) (inl e) = absurd (let z : _≡_ {A = ℕ} 0 1 = e in omega arith)
-no-cpus t o (Cpus l k) (inr e) = absurd (let z : _≡_ {A = ℕ} 0 2 = e in omega arith)
-no-cpus t o Nothing h = refl
-no-cpus t o (Refused r) h = refl
-
-module _ (masks ps cs ms : List ℕ) (t : ℕ) (task : t ≢ nothing) where
-  -- it is the step that is asked for
-  found-step : (x : ℕ) → x ≡ levelOf (getD ps t 0) → (f : Found) → f ≡ lowestFound masks x (getD ms t 0)
-      → (g : Found) → f ≡ g → stepFound t (getD cs t 0) g ≡ stepBy masks ps cs ms t
-  unfolding stepBy lowestFound
-  found-step x level f is g same =
-      ap (stepFound t (getD cs t 0)) (sym same ∙ is)
-      ∙ ap (λ (y : ℕ). stepFound t (getD cs t 0) (lowestFound masks y (getD ms t 0))) level
-      ∙ go (ltb found below)
-      ∙ sym (ap (λ (b : Bool). cond b none (cond (ltb found below) (some move) none)) (ne-eqb t nothing task))
+  by-level : stepBy masks ps cs ms t ≡ cond (ltb l x) (some (move l)) none
+  unfolding stepBy
+  by-level =
+      ap (λ (b : Bool). cond b none (cond (ltb found below) (some (move found)) none)) (ne-eqb t nothing task)
+      ∙ ap (λ (y : ℕ). let i = lowestLevel masks y (getD ms t 0) in cond (ltb i y) (some (move i)) none) (sym own)
+      ∙ ap (λ (i : ℕ). cond (ltb i x) (some (move i)) none) (sym is)
     where
       below : ℕ
       below = levelOf (getD ps t 0)
@@ -58,31 +42,27 @@ module _ (masks ps cs ms : List ℕ) (t : ℕ) (task : t ≢ nothing) where
       found : ℕ
       found = lowestLevel masks below (getD ms t 0)
 
-      move : Move
-      move = record { task = t; origin = getD cs t 0; target = lowest 64 (allowedAt masks (getD ms t 0) found); displaced = found }
-
-      go : (b : Bool) → stepFound t (getD cs t 0) (cond b (Cpus found (allowedAt masks (getD ms t 0) found)) Nothing) ≡ cond b (some move) none
-      go true = refl
-      go false = refl
+  not-found : x ≤ l → none ≡ stepBy masks ps cs ms t
+  not-found h = sym (by-level ∙ ap (λ (b : Bool). cond b (some (move l)) none) (le-ltb l x h))
 
   -- as a step of numbers
-  as-step : (o d l : ℕ) (k : ℕ) → d ≡ lowest 64 k
-      → stepOf (record { task = t; origin = o; target = d; displaced = l }) ≡ stepFound t o (Cpus l k)
-  as-step o d l k e =
-      ap (λ (b : Bool). cond b none (some (record { task = t; origin = o; target = d; displaced = l }))) (ne-eqb t nothing task)
-      ∙ ap (λ (x : ℕ). some (record { task = t; origin = o; target = x; displaced = l })) e
+  found-at : l < x → (d : ℕ) → d ≡ lowest 64 (allowedAt masks (getD ms t 0) l)
+      → stepOf (record { task = t; origin = getD cs t 0; target = d; displaced = l }) ≡ stepBy masks ps cs ms t
+  found-at h d e =
+      ap (λ (b : Bool). cond b none (some (record { task = t; origin = getD cs t 0; target = d; displaced = l }))) (ne-eqb t nothing task)
+      ∙ ap (λ (y : ℕ). some (record { task = t; origin = getD cs t 0; target = y; displaced = l })) e
+      ∙ sym (by-level ∙ ap (λ (b : Bool). cond b (some (move l)) none) (lt-ltb l x h))
 
 -- the task is one
 module _ (c : tie.Else1) where
   place : let k = at.else1 c in (k .args .task < taskPlaces) × (getD (k .args .prio .now) (k .args .task) 0 ≤ highestPriority)
-  place = let k = at.else1 c in k .pre .1 .1 .1 (k .if1 .left)
+  place = let k = at.else1 c in k .pre .1 .1 .1 .0 (k .if1 .left)
 
 returns : tie.Need-returns
 returns c =
     let k = at.returns c in
     let x = k .args in
-    ap (λ (b : Bool). cond b none (some (record { task = x .task; origin = 0; target = 0; displaced = 0 }))) (eq-eqb (x .task) nothing (k .if1 .taken))
-    ∙ sym (no-step (x .masks .now) (x .prio .now) (x .cpu .now) (x .mask .now) (x .task) (k .if1 .taken))
+    sym (no-step (x .masks .now) (x .prio .now) (x .cpu .now) (x .mask .now) (x .task) (k .if1 .taken))
 
 shared-slice-read-of-priority : tie.Need-shared-slice-read-of-priority
 shared-slice-read-of-priority c = let k = at.shared-slice-read-of-priority c in omega (arith, place (k .else1) .0, k .pre .0)
@@ -90,37 +70,24 @@ shared-slice-read-of-priority c = let k = at.shared-slice-read-of-priority c in 
 of-priority-requires : tie.Need-of-priority-requires
 of-priority-requires c κs = let k = at.of-priority-requires c in place (k .else1) .1
 
+cast-below : tie.Need-cast-below
+cast-below c = search needs
+
 mul-allowed : tie.Need-mul-allowed
 mul-allowed c = search needs
 
 shared-slice-read-allowed : tie.Need-shared-slice-read-allowed
 shared-slice-read-allowed c = let k = at.shared-slice-read-allowed c in omega (arith, place (k .else1) .0, k .pre .1 .1 .0)
 
-cast-lowest : tie.Need-cast-lowest
-cast-lowest c = search needs
-
-lowest-requires : tie.Need-lowest-requires
-lowest-requires c κs = let k = at.lowest-requires c in omega (arith, k .of-priority .ensures, place (k .else1) .1)
-
-enum-known-found : tie.Need-enum-known-found
-enum-known-found c = search needs
-
--- whatever the finder answered, its step is the one that is asked for
-module _ (c : tie.After-lowest) where
-  answered : let k = at.after-lowest c in
-      (g : Found) → k .lowest .result ≡ g
-      → stepFound (k .args .task) (getD (k .args .cpu .now) (k .args .task) 0) g ≡ stepBy (k .args .masks .now) (k .args .prio .now) (k .args .cpu .now) (k .args .mask .now) (k .args .task)
-  answered =
-      let k = at.after-lowest c in
-      let x = k .args in
-      found-step (x .masks .now) (x .prio .now) (x .cpu .now) (x .mask .now) (x .task) (k .if1 .left) (k .of-priority .result .number) (k .of-priority .ensures) (k .lowest .result) (k .lowest .ensures)
+lowest-level-requires : tie.Need-lowest-level-requires
+lowest-level-requires c κs = let k = at.lowest-level-requires c in (omega (arith, k .of-priority .ensures, place (k .else1) .1), k .pre .1 .1 .1 .1)
 
 returns-2 : tie.Need-returns-2
 returns-2 c =
     let k = at.returns-2 c in
     let x = k .args in
-    let g = k .lowest .result in
-    no-cpus (x .task) (getD (x .cpu .now) (x .task) 0) g (k .match .keys2) ∙ answered (k .after-lowest) g refl
+    not-found (x .masks .now) (x .prio .now) (x .cpu .now) (x .mask .now) (x .task) (k .if1 .left) (k .of-priority .result .number) (k .of-priority .ensures)
+    (k .lowest-level .result) (k .lowest-level .ensures) (k .if2 .taken)
 
 shared-slice-read : at.Need-shared-slice-read
 shared-slice-read c = let k = at.shared-slice-read c in omega (arith, place (k .else1) .0, k .pre .1 .0)
@@ -128,18 +95,30 @@ shared-slice-read c = let k = at.shared-slice-read c in omega (arith, place (k .
 cast : at.Need-cast
 cast c = let k = at.cast c in omega (arith, k .shared-slice-known6 .given (k .args .task))
 
+mul-lowest-bit : tie.Need-mul-lowest-bit
+mul-lowest-bit c = search needs
+
+element-copy-out-lowest-bit : tie.Need-element-copy-out-lowest-bit
+element-copy-out-lowest-bit c =
+    let k = at.element-copy-out-lowest-bit c in
+    omega (arith, k .if2 .left, k .of-priority .ensures, place (k .else1) .1)
+
 lowest-bit-requires : tie.Need-lowest-bit-requires
 lowest-bit-requires c κs = search needs
 
 cast-2 : at.Need-cast-2
 cast-2 c = search needs
 
+cast-3 : at.Need-cast-3
+cast-3 c = search needs
+
 returns-3 : tie.Need-returns-3
+unfolding allowedAt
 returns-3 c =
     let k = at.returns-3 c in
     let x = k .args in
-    as-step (x .masks .now) (x .prio .now) (x .cpu .now) (x .mask .now) (x .task) (k .if1 .left) (getD (x .cpu .now) (x .task) 0) (k .lowest-bit .result) _ _ (k .lowest-bit .ensures)
-    ∙ answered (k .after-lowest) _ (k .found .given .1)
+    found-at (x .masks .now) (x .prio .now) (x .cpu .now) (x .mask .now) (x .task) (k .if1 .left) (k .of-priority .result .number) (k .of-priority .ensures)
+    (k .lowest-level .result) (k .lowest-level .ensures) (k .if2 .left) (k .lowest-bit .result) (k .lowest-bit .ensures)
 
 pub step-of-spec : {M : Type 1} → statement M
 step-of-spec =
@@ -147,14 +126,16 @@ step-of-spec =
     returns
     shared-slice-read-of-priority
     of-priority-requires
+    cast-below
     mul-allowed
     shared-slice-read-allowed
-    cast-lowest
-    lowest-requires
-    enum-known-found
+    lowest-level-requires
     returns-2
     shared-slice-read
     cast
+    mul-lowest-bit
+    element-copy-out-lowest-bit
     lowest-bit-requires
     cast-2
+    cast-3
     returns-3

@@ -13,7 +13,10 @@ abbrev pub Need-cast : Type 0
 Need-cast = tie.Need-cast-t16
 
 abbrev pub Need-cast-2 : Type 0
-Need-cast-2 = tie.Need-cast-t21
+Need-cast-2 = tie.Need-cast-t25
+
+abbrev pub Need-cast-3 : Type 0
+Need-cast-3 = tie.Need-cast-t26
 
 abbrev pub start : (c : tie.Start) → record { args : typeOf (c .args); pre : typeOf (c .pre) }
 start c = record { args = c .args; pre = c .pre }
@@ -27,23 +30,20 @@ else1 c = let b = start (c .before .before .before .before) in record { args = b
 abbrev pub after-of-priority : (c : tie.After-of-priority) → let b = else1 (c .before .before) in record { args : typeOf (b .args); pre : typeOf (b .pre); if1 : typeOf (b .if1); else1 : typeOf (b .else1); of-priority : typeOf (c .of-priority) }
 after-of-priority c = let b = else1 (c .before .before) in record { args = b .args; pre = b .pre; if1 = b .if1; else1 = b .else1; of-priority = c .of-priority }
 
-abbrev pub after-lowest : (c : tie.After-lowest) → let b = after-of-priority (c .before .before) in record { args : typeOf (b .args); pre : typeOf (b .pre); if1 : typeOf (b .if1); else1 : typeOf (b .else1); of-priority : typeOf (b .of-priority); lowest : typeOf (c .lowest); after-lowest : tie.After-lowest }
-after-lowest c = let b = after-of-priority (c .before .before) in record { args = b .args; pre = b .pre; if1 = b .if1; else1 = b .else1; of-priority = b .of-priority; lowest = c .lowest; after-lowest = c }
+abbrev pub after-lowest-level : (c : tie.After-lowest-level) → let b = after-of-priority (c .before .before .before) in record { args : typeOf (b .args); pre : typeOf (b .pre); if1 : typeOf (b .if1); else1 : typeOf (b .else1); of-priority : typeOf (b .of-priority); lowest-level : typeOf (c .lowest-level) }
+after-lowest-level c = let b = after-of-priority (c .before .before .before) in record { args = b .args; pre = b .pre; if1 = b .if1; else1 = b .else1; of-priority = b .of-priority; lowest-level = c .lowest-level }
 
-abbrev pub at-match-keys1 : (c : tie.At-match-keys1) → let b = after-lowest (c .before) in record { args : typeOf (b .args); pre : typeOf (b .pre); if1 : typeOf (b .if1); else1 : typeOf (b .else1); after-lowest : typeOf (b .after-lowest) }
-at-match-keys1 c = let b = after-lowest (c .before) in record { args = b .args; pre = b .pre; if1 = b .if1; else1 = b .else1; after-lowest = b .after-lowest }
+abbrev pub then2 : (c : tie.Then2) → let b = after-lowest-level (c .before) in record { args : typeOf (b .args); if1 : typeOf (b .if1); of-priority : typeOf (b .of-priority); lowest-level : typeOf (b .lowest-level); if2 : typeOf (c .if2) }
+then2 c = let b = after-lowest-level (c .before) in record { args = b .args; if1 = b .if1; of-priority = b .of-priority; lowest-level = b .lowest-level; if2 = c .if2 }
 
-abbrev pub after-found : (c : tie.After-found) → let b = at-match-keys1 (c .before) in record { args : typeOf (b .args); pre : typeOf (b .pre); if1 : typeOf (b .if1); else1 : typeOf (b .else1); after-lowest : typeOf (b .after-lowest); found : typeOf (c .found) }
-after-found c = let b = at-match-keys1 (c .before) in record { args = b .args; pre = b .pre; if1 = b .if1; else1 = b .else1; after-lowest = b .after-lowest; found = c .found }
+abbrev pub else2 : (c : tie.Else2) → let b = after-lowest-level (c .before) in record { args : typeOf (b .args); pre : typeOf (b .pre); if1 : typeOf (b .if1); else1 : typeOf (b .else1); of-priority : typeOf (b .of-priority); lowest-level : typeOf (b .lowest-level); if2 : typeOf (c .if2) }
+else2 c = let b = after-lowest-level (c .before) in record { args = b .args; pre = b .pre; if1 = b .if1; else1 = b .else1; of-priority = b .of-priority; lowest-level = b .lowest-level; if2 = c .if2 }
 
-abbrev pub at-match-keys2 : (c : tie.At-match-keys2) → let b = after-lowest (c .before) in record { args : typeOf (b .args); lowest : typeOf (b .lowest); after-lowest : typeOf (b .after-lowest); match : typeOf (c .match) }
-at-match-keys2 c = let b = after-lowest (c .before) in record { args = b .args; lowest = b .lowest; after-lowest = b .after-lowest; match = c .match }
+abbrev pub after-shared-slice-known6 : (c : tie.After-shared-slice-known6) → let b = else2 (c .before) in record { args : typeOf (b .args); pre : typeOf (b .pre); if1 : typeOf (b .if1); else1 : typeOf (b .else1); of-priority : typeOf (b .of-priority); lowest-level : typeOf (b .lowest-level); if2 : typeOf (b .if2); shared-slice-known6 : typeOf (c .shared-slice-known6) }
+after-shared-slice-known6 c = let b = else2 (c .before) in record { args = b .args; pre = b .pre; if1 = b .if1; else1 = b .else1; of-priority = b .of-priority; lowest-level = b .lowest-level; if2 = b .if2; shared-slice-known6 = c .shared-slice-known6 }
 
-abbrev pub after-shared-slice-known6 : (c : tie.After-shared-slice-known6) → let b = after-found (c .before .before) in record { args : typeOf (b .args); pre : typeOf (b .pre); if1 : typeOf (b .if1); else1 : typeOf (b .else1); after-lowest : typeOf (b .after-lowest); found : typeOf (b .found); shared-slice-known6 : typeOf (c .shared-slice-known6) }
-after-shared-slice-known6 c = let b = after-found (c .before .before) in record { args = b .args; pre = b .pre; if1 = b .if1; else1 = b .else1; after-lowest = b .after-lowest; found = b .found; shared-slice-known6 = c .shared-slice-known6 }
-
-abbrev pub after-lowest-bit : (c : tie.After-lowest-bit) → let b = after-shared-slice-known6 (c .before) in record { args : typeOf (b .args); if1 : typeOf (b .if1); after-lowest : typeOf (b .after-lowest); found : typeOf (b .found); lowest-bit : typeOf (c .lowest-bit) }
-after-lowest-bit c = let b = after-shared-slice-known6 (c .before) in record { args = b .args; if1 = b .if1; after-lowest = b .after-lowest; found = b .found; lowest-bit = c .lowest-bit }
+abbrev pub after-lowest-bit : (c : tie.After-lowest-bit) → let b = after-shared-slice-known6 (c .before .before) in record { args : typeOf (b .args); if1 : typeOf (b .if1); of-priority : typeOf (b .of-priority); lowest-level : typeOf (b .lowest-level); if2 : typeOf (b .if2); lowest-bit : typeOf (c .lowest-bit) }
+after-lowest-bit c = let b = after-shared-slice-known6 (c .before .before) in record { args = b .args; if1 = b .if1; of-priority = b .of-priority; lowest-level = b .lowest-level; if2 = b .if2; lowest-bit = c .lowest-bit }
 
 abbrev pub returns : (c : tie.Then1) → typeOf (then1 c)
 returns c = then1 c
@@ -54,14 +54,14 @@ shared-slice-read-of-priority c = else1 (c .before)
 abbrev pub of-priority-requires : (c : tie.After-shared-slice-known4) → typeOf (else1 (c .before))
 of-priority-requires c = else1 (c .before)
 
-abbrev pub shared-slice-read-allowed : (c : tie.After-shared-slice-known5) → typeOf (after-of-priority (c .before))
-shared-slice-read-allowed c = after-of-priority (c .before)
+abbrev pub shared-slice-read-allowed : (c : tie.After-shared-slice-known5) → typeOf (after-of-priority (c .before .before))
+shared-slice-read-allowed c = after-of-priority (c .before .before)
 
-abbrev pub lowest-requires : (c : tie.After-shared-slice-known5) → typeOf (after-of-priority (c .before))
-lowest-requires c = after-of-priority (c .before)
+abbrev pub lowest-level-requires : (c : tie.After-shared-slice-known5) → typeOf (after-of-priority (c .before .before))
+lowest-level-requires c = after-of-priority (c .before .before)
 
-abbrev pub returns-2 : (c : tie.At-match-keys2) → typeOf (at-match-keys2 c)
-returns-2 c = at-match-keys2 c
+abbrev pub returns-2 : (c : tie.Then2) → typeOf (then2 c)
+returns-2 c = then2 c
 
 abbrev pub shared-slice-read : (c : tie.After-shared-slice-known6) → typeOf (after-shared-slice-known6 c)
 shared-slice-read c = after-shared-slice-known6 c
@@ -69,11 +69,14 @@ shared-slice-read c = after-shared-slice-known6 c
 abbrev pub cast : (c : tie.After-shared-slice-known6) → typeOf (after-shared-slice-known6 c)
 cast c = after-shared-slice-known6 c
 
+abbrev pub element-copy-out-lowest-bit : (c : tie.After-shared-slice-known6) → typeOf (after-shared-slice-known6 c)
+element-copy-out-lowest-bit c = after-shared-slice-known6 c
+
 abbrev pub returns-3 : (c : tie.After-lowest-bit) → typeOf (after-lowest-bit c)
 returns-3 c = after-lowest-bit c
 
-pub close : {M : Type 1} → tie.Need-returns → tie.Need-shared-slice-read-of-priority → tie.Need-of-priority-requires → tie.Need-mul-allowed → tie.Need-shared-slice-read-allowed → tie.Need-cast-lowest → tie.Need-lowest-requires → tie.Need-enum-known-found → tie.Need-returns-2 → tie.Need-shared-slice-read-t15 → tie.Need-cast-t16 → tie.Need-lowest-bit-requires → tie.Need-cast-t21 → tie.Need-returns-3 → statement M
-close a0 a1 a2 a3 a4 a5 a6 a7 a8 a9 a10 a11 a12 a13 =
+pub close : {M : Type 1} → tie.Need-returns → tie.Need-shared-slice-read-of-priority → tie.Need-of-priority-requires → tie.Need-cast-below → tie.Need-mul-allowed → tie.Need-shared-slice-read-allowed → tie.Need-lowest-level-requires → tie.Need-returns-2 → tie.Need-shared-slice-read-t15 → tie.Need-cast-t16 → tie.Need-mul-lowest-bit → tie.Need-element-copy-out-lowest-bit → tie.Need-lowest-bit-requires → tie.Need-cast-t25 → tie.Need-cast-t26 → tie.Need-returns-3 → statement M
+close a0 a1 a2 a3 a4 a5 a6 a7 a8 a9 a10 a11 a12 a13 a14 a15 =
     tie.close
     (tie.spec
     a0
@@ -89,4 +92,6 @@ close a0 a1 a2 a3 a4 a5 a6 a7 a8 a9 a10 a11 a12 a13 =
     a10
     a11
     a12
-    a13)
+    a13
+    a14
+    a15)

@@ -68,10 +68,10 @@ scan-requires c κs =
 
 returns : tie.Need-returns
 returns c =
-    λ m l h best.
+    λ m l told h best.
     let k = known.returns c in
     let a = k .args in
-    kept l (a .test) (a .cpu) h (a .best) best (k .scan .result) (k .scan .ensures) (k .if1 .taken)
+    kept l (a .test) _ told (a .cpu) h (a .best) best (k .scan .result) (k .scan .ensures) (k .if1 .taken)
 
 add-task : tie.Need-add-task
 add-task c = let f = fits (known.add-task c .start) in let w = inside c in omega arith
@@ -95,10 +95,10 @@ shared-slice-read-priority c =
 
 returns-2 : tie.Need-returns-2
 returns-2 c =
-    λ m l h best.
+    λ m l told h best.
     let k = known.returns-2 c in
     let a = k .args in
-    beaten l (a .test) (a .cpu) h (a .best) best (k .scan .result) (k .scan .ensures) (inside (k .else1) .1) _ refl refl refl
+    beaten l (a .test) _ told (a .cpu) h (a .best) best (k .scan .result) (k .scan .ensures) (inside (k .else1) .1) _ refl refl refl
 
 pub better-spec : {M : Type 1} → statement M
 better-spec =

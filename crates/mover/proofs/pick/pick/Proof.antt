@@ -6,7 +6,7 @@ use native.Mathlib.Omega.{arith}
 use lib.ListN.{length, getD}
 use Rattle.rules.specs.Machine.{Machine}
 use Rattle.mover.specs.Foremost.{Looking, BestOf}
-use Rattle.mover.specs.Wanted.{meant}
+use Rattle.mover.specs.Wanted.{meant, Told}
 use Rattle.mover.proofs.Candidates.{looking-cpus, no-best, skip-best}
 use Rattle.mover.proofs.pick.pick.Statement.{statement}
 use Rattle.mover.proofs.pick.pick.Tie as tie
@@ -14,10 +14,10 @@ use Rattle.mover.proofs.pick.pick.Proof.Paths as at
 mod Paths
 
 abbrev Inv-loop : tie.InvT-loop
-Inv-loop test n prio mask rows counts masks best₀ cpu₀ best cpu = (cpu ≤ n) × (cpu < n → 2 ≤ getD counts cpu 0) × ((m : Machine) → Looking m prio mask counts rows masks → n ≡ m .n → BestOf (meant m test) m cpu best)
+Inv-loop test n prio mask rows counts under best₀ cpu₀ best cpu = (cpu ≤ n) × (cpu < n → 2 ≤ getD counts cpu 0) × ((m : Machine) → Looking m prio mask counts rows → Told m test under → n ≡ m .n → BestOf (meant m test) m cpu best)
 
 abbrev μ-loop : tie.MeasureT-loop
-μ-loop test n prio mask rows counts masks best₀ cpu₀ best cpu = n - cpu
+μ-loop test n prio mask rows counts under best₀ cpu₀ best cpu = n - cpu
 
 -- there is a count for each CPU
 counted : (a : tie.Start Inv-loop μ-loop) → a .args .n ≡ length (a .args .counts .now)
@@ -32,7 +32,7 @@ loop-holds c =
     let next = p .next-waiting .ensures in (
       next .most,
       next .some,
-      λ m k e. skip-best k (p .args .test) _ 0 _ _ e next (no-best k (p .args .test) _ refl (p .least .ensures)),
+      λ m k told e. skip-best k (p .args .test) _ 0 _ _ e next (no-best k (p .args .test) _ told _ refl (p .least .ensures)),
     )
 
 better-requires : tie.Need-better-requires Inv-loop μ-loop
@@ -57,10 +57,10 @@ loop-again c =
     let l = p .loop in (
       next .most,
       next .some,
-      λ m k e.
+      λ m k told e.
           skip-best k (p .args .test) _ _ _ _ e next
           (subst (λ (i : ℕ). BestOf (meant m (p .args .test)) m i (p .better .result)) (sym (add-one (l .cpu)))
-          (p .better .ensures m k (omega (arith, p .loop-test .taken)) (l .inv .2 m k e))),
+          (p .better .ensures m k told (omega (arith, p .loop-test .taken)) (l .inv .2 m k told e))),
     )
 
 returns : tie.Need-returns Inv-loop μ-loop
@@ -68,7 +68,7 @@ returns c =
     let p = at.returns c in
     let l = p .loop in
     let all : l .cpu ≡ p .args .n = omega arith in
-    λ m k e. subst (λ (i : ℕ). BestOf (meant m (p .args .test)) m i (l .best)) all (l .inv .2 m k e)
+    λ m k told e. subst (λ (i : ℕ). BestOf (meant m (p .args .test)) m i (l .best)) all (l .inv .2 m k told e)
 
 pub pick-spec : {M : Type 1} → statement M
 pick-spec =

@@ -107,14 +107,14 @@ module _ (want : ℕ → Bool) (ps ms row : List ℕ) (count : ℕ) (ok : Search
       go false e = before k h (leb-false at k e)
 
 abbrev Inv-loop : tie.InvT-loop
-Inv-loop test row prio mask masks count floor at₀ at = (1 ≤ at) × (at ≤ count) × ((k : ℕ) → 1 ≤ k → k < at → wanted test masks prio mask floor (getD row k 0) ≡ false)
+Inv-loop test row prio mask under count floor at₀ at = (1 ≤ at) × (at ≤ count) × ((k : ℕ) → 1 ≤ k → k < at → wanted test under prio mask floor (getD row k 0) ≡ false)
 
 abbrev μ-loop : tie.MeasureT-loop
-μ-loop test row prio mask masks count floor at₀ at = count - at
+μ-loop test row prio mask under count floor at₀ at = count - at
 
 -- what is looked for
 abbrev wants : tie.Start Inv-loop μ-loop → ℕ → Bool
-wants s = let a = s .args in wanted (a .test) (a .masks .now) (a .prio .now) (a .mask .now) (a .floor)
+wants s = let a = s .args in wanted (a .test) (a .under .now) (a .prio .now) (a .mask .now) (a .floor)
 
 loop-holds : tie.Need-loop-holds Inv-loop μ-loop
 loop-holds c = (omega arith, known.loop-holds c .pre .1 .some, (λ k h l. absurd (none h l)))
@@ -138,7 +138,7 @@ returns c =
     let l = p .loop in
     sym (scan-is (wants (p .start)) (a .prio .now) (a .mask .now) (a .row .now) (a .count) (p .pre .1) (a .count) (p .pre .1 .some) same
     (λ k h m. past (wants (p .start)) (a .prio .now) (a .mask .now) (a .row .now) (a .count) (p .pre .1) (a .floor)
-    (too-low (a .test) (a .masks .now) (a .prio .now) (a .mask .now) (a .floor)) (l .at) (p .loop-test .taken) (l .inv .2) (omega (arith, p .if1 .taken)) k h m) (λ h. absurd (self h)))
+    (too-low (a .test) (a .under .now) (a .prio .now) (a .mask .now) (a .floor)) (l .at) (p .loop-test .taken) (l .inv .2) (omega (arith, p .if1 .taken)) k h m) (λ h. absurd (self h)))
 
 mul-passes : tie.Need-mul-passes Inv-loop μ-loop
 mul-passes c = let k = known.mul-passes c in omega (arith, k .pre .1 .tasks (k .loop .at) (k .loop-test .taken))
@@ -155,7 +155,7 @@ returns-2 c =
     let a = k .args in
     let l = k .loop in
     sym (scan-is (wants (k .start)) (a .prio .now) (a .mask .now) (a .row .now) (a .count) (k .pre .1) (l .at) (l .inv .0) (l .inv .1) (l .inv .2)
-    (λ h. is-wanted (a .test) (a .masks .now) (a .prio .now) (a .mask .now) (a .floor) (getD (a .row .now) (l .at) 0) (k .if1 .left) (sym (k .passes .ensures) ∙ k .if2 .taken)))
+    (λ h. is-wanted (a .test) (a .under .now) (a .prio .now) (a .mask .now) (a .floor) (getD (a .row .now) (l .at) 0) (k .if1 .left) (sym (k .passes .ensures) ∙ k .if2 .taken)))
 
 add-at : tie.Need-add-at Inv-loop μ-loop
 add-at c = omega arith
@@ -171,7 +171,7 @@ loop-again c =
       on (p .loop-test .taken) .0,
       on (p .loop-test .taken) .1,
       more (λ (k : ℕ). wants (p .start) (getD (a .row .now) k 0) ≡ false) (l .at) (l .inv .2)
-          (unwanted (a .test) (a .masks .now) (a .prio .now) (a .mask .now) (a .floor) (getD (a .row .now) (l .at) 0) (sym (p .passes .ensures) ∙ p .if2 .left)),
+          (unwanted (a .test) (a .under .now) (a .prio .now) (a .mask .now) (a .floor) (getD (a .row .now) (l .at) 0) (sym (p .passes .ensures) ∙ p .if2 .left)),
     )
 
 returns-3 : tie.Need-returns-3 Inv-loop μ-loop
