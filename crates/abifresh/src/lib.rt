@@ -53,7 +53,7 @@ pub extern "C" fn qoriwesh_make_fresh(
         return BAD_SIZE;
     }
     let given = read(level_masks, level_counts, level_words, levels);
-    let made = checker::fresh::make_fresh(
+    let made = maker::make_fresh(
         n,
         full,
         state,

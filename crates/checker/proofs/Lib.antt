@@ -1,2 +1,2 @@
--- The laws behind the fresh maker and the check.
+-- The laws behind the check.
 pub mod Answers

@@ -1,3 +1,2 @@
-// The tables that a caller lends: made fresh, and checked. A check passes once over each table.
+// The tables that a caller lends, checked: one pass over each.
 pub mod check;
-pub mod fresh;

@@ -3,9 +3,9 @@ ghost use mathlib.Core.Path.{_≡_};
 ghost use Rattle.rules.specs.Machine.{defaultSlice};
 ghost use Rattle.rules.specs.Entry.{kept, made, handedBack};
 ghost use Rattle.lenttables.specs.Lent.{oldTables, newTables};
-use checker::fresh::Made;
-use checker::fresh::make_fresh;
 use cpupri::record::Record;
+use maker::Made;
+use maker::make_fresh;
 use rules::task::DEFAULT_SLICE;
 
 // `make_fresh` with a full slice of 25 ticks.

@@ -2,11 +2,11 @@
 ghost use Prim.Native.Nat.{_≤_, _<_};
 use super::line::half;
 use super::line::small;
-use checker::fresh::Made;
-use checker::fresh::make_fresh;
 use cpupri::record::Record;
 use defaultmaker::make_fresh_default;
 use machine::Outcome;
+use maker::Made;
+use maker::make_fresh;
 use rules::answer::ACCEPTED;
 use rules::log::LOG;
 use rules::task::FIFO;

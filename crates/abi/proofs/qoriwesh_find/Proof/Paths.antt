@@ -28,8 +28,8 @@ after-lengths-fit c = let b = start (c .before .before .before .before .before) 
 abbrev pub then1 : (c : tie.Then1) → let b = after-lengths-fit (c .before) in record { args : typeOf (b .args); start : typeOf (b .start); lengths-fit : typeOf (b .lengths-fit); if1 : typeOf (c .if1) }
 then1 c = let b = after-lengths-fit (c .before) in record { args = b .args; start = b .start; lengths-fit = b .lengths-fit; if1 = c .if1 }
 
-abbrev pub after-tell : (c : tie.After-tell) → let b = then1 (c .before .before .before) in record { args : typeOf (b .args); start : typeOf (b .start); lengths-fit : typeOf (b .lengths-fit); if1 : typeOf (b .if1); tell : typeOf (c .tell) }
-after-tell c = let b = then1 (c .before .before .before) in record { args = b .args; start = b .start; lengths-fit = b .lengths-fit; if1 = b .if1; tell = c .tell }
+abbrev pub after-tell : (c : tie.After-tell) → let b = then1 (c .before .before .before .before) in record { args : typeOf (b .args); start : typeOf (b .start); lengths-fit : typeOf (b .lengths-fit); if1 : typeOf (b .if1); tell : typeOf (c .tell) }
+after-tell c = let b = then1 (c .before .before .before .before) in record { args = b .args; start = b .start; lengths-fit = b .lengths-fit; if1 = b .if1; tell = c .tell }
 
 abbrev pub else1 : (c : tie.Else1) → let b = after-lengths-fit (c .before) in record { args : typeOf (b .args); start : typeOf (b .start); lengths-fit : typeOf (b .lengths-fit); if1 : typeOf (c .if1) }
 else1 c = let b = after-lengths-fit (c .before) in record { args = b .args; start = b .start; lengths-fit = b .lengths-fit; if1 = c .if1 }
@@ -40,8 +40,8 @@ after-read c = let b = else1 (c .before) in record { args = b .args; start = b .
 abbrev pub after-find : (c : tie.After-find) → let b = after-read (c .before) in record { args : typeOf (b .args); start : typeOf (b .start); lengths-fit : typeOf (b .lengths-fit); if1 : typeOf (b .if1); read : typeOf (b .read); find : typeOf (c .find) }
 after-find c = let b = after-read (c .before) in record { args = b .args; start = b .start; lengths-fit = b .lengths-fit; if1 = b .if1; read = b .read; find = c .find }
 
-abbrev pub after-tell2 : (c : tie.After-tell2) → let b = after-find (c .before .before .before) in record { args : typeOf (b .args); start : typeOf (b .start); lengths-fit : typeOf (b .lengths-fit); if1 : typeOf (b .if1); read : typeOf (b .read); find : typeOf (b .find); tell2 : typeOf (c .tell2) }
-after-tell2 c = let b = after-find (c .before .before .before) in record { args = b .args; start = b .start; lengths-fit = b .lengths-fit; if1 = b .if1; read = b .read; find = b .find; tell2 = c .tell2 }
+abbrev pub after-tell2 : (c : tie.After-tell2) → let b = after-find (c .before .before .before .before) in record { args : typeOf (b .args); start : typeOf (b .start); lengths-fit : typeOf (b .lengths-fit); if1 : typeOf (b .if1); read : typeOf (b .read); find : typeOf (b .find); tell2 : typeOf (c .tell2) }
+after-tell2 c = let b = after-find (c .before .before .before .before) in record { args = b .args; start = b .start; lengths-fit = b .lengths-fit; if1 = b .if1; read = b .read; find = b .find; tell2 = c .tell2 }
 
 abbrev pub returns : (c : tie.After-tell) → typeOf (after-tell c)
 returns c = after-tell c

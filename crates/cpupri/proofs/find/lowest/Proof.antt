@@ -32,7 +32,7 @@ lowest-level-requires : tie.Need-lowest-level-requires
 lowest-level-requires c κs = at.lowest-level-requires c .pre
 
 marked-below-requires : tie.Need-marked-below-requires
-marked-below-requires c κs = at.marked-below-requires c .pre .0
+marked-below-requires c κs = omega (arith, at.marked-below-requires c .pre .0)
 
 returns : tie.Need-returns
 returns c =

@@ -1,10 +1,10 @@
--- The places of `checker::fresh::make_fresh` by name, and its needs that are plumbing. Written by `scripts/paths checker`: not to be edited.
+-- The places of `maker::make_fresh` by name, and its needs that are plumbing. Written by `scripts/paths maker`: not to be edited.
 -- Assumes nothing.
 use borrow.Author.Needs.{needs}
 use mathlib.Core.List.{List}
 use Prim.Native.Nat.{ℕ}
-use Rattle.checker.proofs.fresh.make_fresh.Statement.{statement}
-use Rattle.checker.proofs.fresh.make_fresh.Tie as tie
+use Rattle.maker.proofs.make_fresh.Statement.{statement}
+use Rattle.maker.proofs.make_fresh.Tie as tie
 
 abbrev typeOf : {A : Type 0} → A → Type 0
 typeOf {A} x = A

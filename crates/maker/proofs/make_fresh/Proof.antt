@@ -1,14 +1,14 @@
--- `checker::fresh::make_fresh` meets its contract.
+-- `maker::make_fresh` meets its contract.
 -- Assumes nothing.
 use mathlib.Core.Path.{refl, sym, _∙_}
 use borrow.Author.Tests.{not-true, not-false}
 use Rattle.lenttables.specs.Lent.{lent, nowTables, sizesFit}
 use Rattle.rules.specs.Tables.{Tables}
 use Rattle.laws.proofs.Entry.{lengths-shape, made-refused}
-use Rattle.checker.proofs.Answers.{made-blank}
-use Rattle.checker.proofs.fresh.make_fresh.Statement.{statement}
-use Rattle.checker.proofs.fresh.make_fresh.Tie as tie
-use Rattle.checker.proofs.fresh.make_fresh.Proof.Paths as at
+use Rattle.maker.proofs.Blank.{made-blank}
+use Rattle.maker.proofs.make_fresh.Statement.{statement}
+use Rattle.maker.proofs.make_fresh.Tie as tie
+use Rattle.maker.proofs.make_fresh.Proof.Paths as at
 mod Paths
 
 -- what the caller lent

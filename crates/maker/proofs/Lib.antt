@@ -1,0 +1,2 @@
+-- The laws of a fresh machine's tables.
+pub mod Blank
