@@ -235,11 +235,16 @@ uint8_t qoriwesh_event(
 
 /*
  * The lowest level below `level` (0 to 101) that has a CPU of `mask`, and which
- * CPUs of the mask are at it.
+ * CPUs of the mask are at it. The search goes by the level bits, from the lowest
+ * level on, and reads the mask of each level that has a CPU, of `mask` or not.
  *
  * 0: *found_level and *found_mask are that level and those CPUs, or 255 and 0
- * if there is no such level. QORIWESH_ESIZE, QORIWESH_EFORM (the record is
- * inconsistent in itself), QORIWESH_EVALUE, QORIWESH_EMASK: 255 and 0 too.
+ * if there is no such level. *masks_read is how many masks the search read: one
+ * for each level below `level` that has a CPU, up to the one found and with it,
+ * or all of them if none is found.
+ *
+ * QORIWESH_ESIZE, QORIWESH_EFORM (the record is inconsistent in itself),
+ * QORIWESH_EVALUE, QORIWESH_EMASK: 255 and 0 too, and *masks_read is 0.
  */
 uint8_t qoriwesh_find(
 	size_t n,
@@ -248,7 +253,7 @@ uint8_t qoriwesh_find(
 	const uint64_t *level_words, size_t level_words_len,
 	const uint8_t *levels, size_t levels_len,
 	uint32_t level, uint64_t mask,
-	uint8_t *found_level, uint64_t *found_mask);
+	uint8_t *found_level, uint64_t *found_mask, uint32_t *masks_read);
 
 /*
  * Replays a recording on a fresh machine, in tables for 64 CPUs: rows 64*512
@@ -389,16 +394,17 @@ static inline int qoriwesh_machine_event(struct qoriwesh_machine *m,
 	return answer ? -answer : QORIWESH_INT(moves);
 }
 
-/* 0 with what was found, or a refusal's number, negative. */
+/* 0 with what was found and how many masks were read for it, or a refusal's number, negative. */
 static inline int qoriwesh_machine_find(const struct qoriwesh_machine *m,
 					uint32_t level, uint64_t mask,
-					uint8_t *found_level, uint64_t *found_mask)
+					uint8_t *found_level, uint64_t *found_mask,
+					uint32_t *masks_read)
 {
 	return -qoriwesh_find(m->cpus, m->level_masks, QORIWESH_LEVELS,
 			      m->level_counts, QORIWESH_LEVELS,
 			      m->level_words, QORIWESH_WORDS,
 			      m->levels, QORIWESH_CPUS,
-			      level, mask, found_level, found_mask);
+			      level, mask, found_level, found_mask, masks_read);
 }
 
 /* What a replay reports. */

@@ -2,9 +2,10 @@
 /*
  * Document 01's marked examples K1 to K12 through include/qoriwesh.h, as C and as C++; the fourth numbers of the
  * log are those of document 02, request L2, and K11's row is that of request L3, of which there are more cases. They
- * name 100 as the full slice; request L7, by which it is a number of the machine, has cases of its own, and so has request L8,
- * by which CPUs go offline and come back. Each line of an example is an event with what it must answer; what the example says
- * of rows, levels, log and columns is compared after it. Says so and exits 0, or says what differs and exits 1.
+ * name 100 as the full slice; request L7, by which it is a number of the machine, has cases of its own, and so have request
+ * L8, by which CPUs go offline and come back, and request L4, by which the finder says how many masks it read. Each line of an
+ * example is an event with what it must answer; what the example says of rows, levels, log and columns is compared after it.
+ * Says so and exits 0, or says what differs and exits 1.
  */
 #include <stdio.h>
 #include <string.h>
@@ -852,20 +853,143 @@ static void slices_refused(void)
 	slice_refused(UINT32_MAX);
 }
 
-/* The finder, and what the other examples do not reach: kinds, policies, damage. */
+/* What the finder gives: where nothing is written, 7 is left. */
+static void finds(uint32_t asked, uint64_t mask, int answer, int level_found, uint64_t cpus, uint32_t masks)
+{
+	uint8_t found_level = 7;
+	uint64_t found_mask = 7;
+	uint32_t masks_read = 7;
+
+	same("the finder's answer", qoriwesh_machine_find(&m, asked, mask, &found_level, &found_mask, &masks_read), answer);
+	same("the level found", found_level, level_found);
+	same("whether the CPUs found are the right ones", found_mask == cpus, 1);
+	same("the masks read", masks_read, masks);
+}
+
+static void found(uint32_t asked, uint64_t mask, int level_found, uint64_t cpus, uint32_t masks)
+{
+	finds(asked, mask, 0, level_found, cpus, masks);
+}
+
+/* "None is answer 0 with level 255 and mask 0"; "all of them on none" */
+static void found_none(uint32_t asked, uint64_t mask, uint32_t masks)
+{
+	finds(asked, mask, 0, QORIWESH_LEVEL_INVALID, 0, masks);
+}
+
+/* "a refusing finder gives its number with the same 255 and 0"; "0 on a refusal" */
+static void not_found(uint32_t asked, uint64_t mask, int refusal)
+{
+	finds(asked, mask, -refusal, QORIWESH_LEVEL_INVALID, 0, 0);
+}
+
+/* Levels 52 and 42. The asked level has no part in the count, whether it has a CPU or not. */
+static void find_two_levels(void)
+{
+	k2("find");
+	found(QORIWESH_LEVEL_PRIO(50), 3, 42, 2, 1);
+	found(101, 3, 42, 2, 1);
+	found(101, 1, 52, 1, 2);
+	found(53, 1, 52, 1, 2);
+	found_none(52, 1, 1);
+	found_none(43, 1, 1);
+	found_none(42, 3, 0);
+	found_none(42, 1, 0);
+	found_none(0, 3, 0);
+}
+
+/* Six CPUs at levels 63, 64, 65, 101, 1 and 0: the bits of both words. */
+static void find_both_words(void)
+{
+	uint32_t cpu;
+
+	fresh("find in both words", 6);
+	for (cpu = 0; cpu < 4; cpu++) {
+		add(cpu, cpu < 3 ? 61 + cpu : 99, UINT64_C(1) << cpu);
+		wake(cpu, 0);
+	}
+	event(QORIWESH_ORDINARY, 4, 0, 1, 0, 0);
+	found(101, 63, 0, 32, 1);
+	found(101, 31, 1, 16, 2);
+	found(101, 15, 63, 1, 3);
+	found(101, 14, 64, 2, 4);
+	found(101, 12, 65, 4, 5);
+	found_none(101, 8, 5);
+	found(66, 12, 65, 4, 5);
+	found_none(65, 12, 4);
+	found(65, 14, 64, 2, 4);
+	found_none(64, 14, 3);
+	found(64, 15, 63, 1, 3);
+	found_none(63, 15, 2);
+	found_none(2, 15, 2);
+	found_none(1, 31, 1);
+	found(1, 63, 0, 32, 1);
+	found_none(0, 63, 0);
+}
+
+/* "one for each level", however many CPUs are at it, and an offline CPU is at none; 64 levels are the most. */
+static void find_counts_levels(void)
+{
+	uint32_t cpu;
+
+	fresh("find among many", QORIWESH_CPUS);
+	found(101, UINT64_MAX, 0, UINT64_MAX, 1);
+	for (cpu = 0; cpu < 63; cpu++)
+		offline(cpu, 0);
+	found_none(101, UINT64_MAX >> 1, 1);
+	for (cpu = 0; cpu < 63; cpu++)
+		online(cpu, 0);
+	for (cpu = 0; cpu < QORIWESH_CPUS; cpu++) {
+		add(cpu, 98 - cpu, UINT64_C(1) << cpu);
+		wake(cpu, 0);
+	}
+	for (cpu = 0; cpu < QORIWESH_CPUS; cpu++) {
+		found(101, UINT64_C(1) << cpu, 100 - QORIWESH_INT(cpu), UINT64_C(1) << cpu, 64 - cpu);
+		found_none(100 - cpu, UINT64_C(1) << cpu, 63 - cpu);
+	}
+}
+
+/* The entry itself on a record of other lengths, or for another N. */
+static void find_lent(size_t n, size_t masks, size_t counts, size_t words, size_t cpus)
+{
+	uint8_t found_level = 7;
+	uint64_t found_mask = 7;
+	uint32_t masks_read = 7;
+
+	same("the entry's answer",
+	     qoriwesh_find(n, m.level_masks, masks, m.level_counts, counts, m.level_words, words, m.levels, cpus, 101, 3,
+			   &found_level, &found_mask, &masks_read),
+	     QORIWESH_ESIZE);
+	same("the level found", found_level, QORIWESH_LEVEL_INVALID);
+	same("whether no CPU is found", found_mask == 0, 1);
+	same("the masks read", masks_read, 0);
+}
+
+static void find_refused(void)
+{
+	k2("find, refused");
+	not_found(102, 1, QORIWESH_EVALUE);
+	not_found(256 + 52, 1, QORIWESH_EVALUE);
+	not_found(UINT32_MAX, 1, QORIWESH_EVALUE);
+	not_found(102, 0, QORIWESH_EVALUE);
+	not_found(101, 0, QORIWESH_EMASK);
+	not_found(101, 4, QORIWESH_EMASK);
+	not_found(101, UINT64_MAX, QORIWESH_EMASK);
+	find_lent(0, QORIWESH_LEVELS, QORIWESH_LEVELS, QORIWESH_WORDS, QORIWESH_CPUS);
+	find_lent(65, QORIWESH_LEVELS, QORIWESH_LEVELS, QORIWESH_WORDS, QORIWESH_CPUS);
+	find_lent(2, QORIWESH_LEVELS - 1, QORIWESH_LEVELS, QORIWESH_WORDS, QORIWESH_CPUS);
+	find_lent(2, QORIWESH_LEVELS, 0, QORIWESH_WORDS, QORIWESH_CPUS);
+	find_lent(2, QORIWESH_LEVELS, QORIWESH_LEVELS, 1, QORIWESH_CPUS);
+	find_lent(2, QORIWESH_LEVELS, QORIWESH_LEVELS, QORIWESH_WORDS, 2);
+	m.level_words[1] |= UINT64_C(1) << 38;
+	not_found(101, 1, QORIWESH_EFORM);
+	not_found(102, 0, QORIWESH_EFORM);
+}
+
+/* What the other examples do not reach: kinds, policies, damage. */
 static void others(void)
 {
-	uint8_t found_level;
-	uint64_t found_mask;
-
-	k2("find");
-	same("its answer", qoriwesh_machine_find(&m, QORIWESH_LEVEL_PRIO(50), 3, &found_level, &found_mask), 0);
-	same("the level", found_level, 42);
-	same("the CPUs are 1 alone", found_mask == 2, 1);
-	same("its answer", qoriwesh_machine_find(&m, 42, 3, &found_level, &found_mask), 0);
-	same("no level", found_level, QORIWESH_LEVEL_INVALID);
-	same("its refusal", qoriwesh_machine_find(&m, 102, 3, &found_level, &found_mask), -QORIWESH_EVALUE);
-	begin("refusals");
+	k2("refusals");
 	event(12, 0, 0, 0, 0, -QORIWESH_EKIND);
 	event(QORIWESH_ADD, 5, 3, 50, 1, -QORIWESH_EPOLICY);
 	m.levels[63] = 0;
@@ -899,6 +1023,10 @@ int main(void)
 	online_words();
 	k12();
 	lengths();
+	find_two_levels();
+	find_both_words();
+	find_counts_levels();
+	find_refused();
 	others();
 	if (!wrong)
 		printf("K1 to K12, new priorities, full slices, CPUs offline, the finder and the refusals are as the documents "

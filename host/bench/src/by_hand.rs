@@ -9,6 +9,8 @@ pub struct ByHand {
     start: (plain::Tables, Record),
     tables: plain::Tables,
     record: Record,
+    /// Whether inner events are told that the machine is settled.
+    told: bool,
 }
 
 impl ByHand {
@@ -19,6 +21,14 @@ impl ByHand {
             start,
             tables,
             record,
+            told: true,
+        }
+    }
+
+    pub fn untold(start: &Tables) -> ByHand {
+        ByHand {
+            told: false,
+            ..ByHand::new(start)
         }
     }
 }
@@ -42,7 +52,7 @@ impl Side for ByHand {
             Work::Inner(events) => {
                 let mut t = self.tables.lend().expect("right lengths");
                 sum(events.iter().map(|e| {
-                    let o = plain::handle(&mut t, &mut self.record, &event(e), true);
+                    let o = plain::handle(&mut t, &mut self.record, &event(e), self.told);
                     outcome(o.answer, o.moves)
                 }))
             }

@@ -3,7 +3,7 @@
 use crate::by_hand::ByHand;
 use crate::keep::Row;
 use crate::machines::{mixed, Scene};
-use crate::ours::Ours;
+use crate::ours::{Ours, Untold};
 use crate::say::say;
 use crate::second::Second;
 use crate::side::{Side, Work};
@@ -22,6 +22,9 @@ pub fn has((n, tasks): (usize, usize)) -> bool {
 /// The compared versions that a growth is given of.
 pub const SIDES: [&str; 2] = ["library", "plain"];
 
+/// The compared versions, on a machine.
+pub type Sides = fn(&Scene) -> Vec<Box<dyn Side>>;
+
 /// One machine: CPUs, tasks, how many of them wait at the start, and the time of each version.
 struct Point {
     n: usize,
@@ -30,12 +33,7 @@ struct Point {
     row: Row,
 }
 
-fn measure(
-    run: &mut Run,
-    section: &str,
-    sides: fn(&Scene) -> Vec<Box<dyn Side>>,
-    work: fn(&Scene) -> Work,
-) -> Vec<Point> {
+fn measure(run: &mut Run, section: &str, sides: Sides, work: fn(&Scene) -> Work) -> Vec<Point> {
     let mut points = Vec::new();
     for n in SIZES {
         for tasks in LOADS {
@@ -65,7 +63,15 @@ pub fn two(scene: &Scene) -> Vec<Box<dyn Side>> {
     ]
 }
 
-/// Those and the second scheduler.
+/// The same, where neither is told that the machine is settled.
+pub fn two_untold(scene: &Scene) -> Vec<Box<dyn Side>> {
+    vec![
+        Box::new(Untold::new(&scene.start)),
+        Box::new(ByHand::untold(&scene.start)),
+    ]
+}
+
+/// The first two and the second scheduler.
 fn three(scene: &Scene) -> Vec<Box<dyn Side>> {
     let mut sides = two(scene);
     sides.push(Box::new(Second::new(&scene.start)));
@@ -144,11 +150,23 @@ fn against_second(p: &Point) -> Vec<String> {
 }
 
 pub fn inner(run: &mut Run) {
-    if !run.effort.wants(has) {
-        return;
+    if run.effort.wants(has) {
+        say("Inner event (tables not checked), the same mix, ns an event\n");
+        unchecked(run, "inner", two);
     }
-    say("Inner event (tables not checked), the same mix, ns an event\n");
-    let points = measure(run, "inner", two, |scene| Work::Inner(scene.events.clone()));
+}
+
+pub fn untold(run: &mut Run) {
+    if run.effort.wants(has) {
+        say("Inner event, not told that the machine is settled, the same mix, ns an event\n");
+        unchecked(run, "untold", two_untold);
+    }
+}
+
+/// A section of inner events.
+fn unchecked(run: &mut Run, section: &str, sides: Sides) {
+    let inner = |scene: &Scene| Work::Inner(scene.events.clone());
+    let points = measure(run, section, sides, inner);
     let head = ["N", "tasks", "waiting", "library", "plain", "library/plain"];
     let mut table = Table::new(&head);
     for p in &points {

@@ -27,7 +27,7 @@ pub fn hotplug(run: &mut Run) {
     let mut table = Table::new(&head);
     let cases = SIZES.into_iter().flat_map(of_size).chain(worst());
     for (name, scene) in cases {
-        if !name.starts_with(&run.case) {
+        if !run.wants(&name) {
             continue;
         }
         let scene = scene();

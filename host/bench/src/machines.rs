@@ -130,23 +130,57 @@ fn some_event(rng: &mut Rng, t: &Tables, tasks: usize) -> Event {
     }
 }
 
+/// The tasks of `chain` that wait and can't move: none, or 7 more in each row, which are below every CPU's level or next below
+/// the one that runs.
+#[derive(Clone, Copy)]
+pub enum Pinned {
+    None,
+    Low,
+    High,
+}
+
 /// Task c runs on CPU c and may use the next; priorities fall. One more, the highest, wakes on CPU 0: every
-/// other task moves on by one CPU, 63 moves. With `pinned` each row has 7 more tasks, which can't move.
-pub fn chain(pinned: bool) -> Scene {
+/// other task moves on by one CPU, 63 moves.
+pub fn chain(pinned: Pinned) -> Scene {
     let mut t = fresh(64);
     for c in 0..64 {
         put(&mut t, c, 1, 95 - c, 3 << c);
     }
-    let mut who = 64;
-    while pinned && who < TASKS - 1 {
-        put(&mut t, who, 1, 30, 1 << (who % 64));
-        who += 1;
+    for who in 64..TASKS - 1 {
+        let c = who % 64;
+        match pinned {
+            Pinned::None => (),
+            Pinned::Low => put(&mut t, who, 1, 30, 1 << c),
+            Pinned::High => put(&mut t, who, 1, 94 - c, 1 << c),
+        }
     }
     add(&mut t, TASKS - 1, 1, 99, 1);
     let events = vec![event(WAKE, TASKS - 1)];
     let moves = t.clone().event(events[0]).moves;
     assert_eq!(moves, 63);
     Scene { start: t, events }
+}
+
+/// 64 CPUs in two halves. Those of the first run high tasks, and 448 more wait there, which may use all of this half. Those of
+/// the second run low ones at 32 levels: each who waits is above all of them and may use none. Ticks, which change nothing.
+pub fn halves() -> Scene {
+    let mut t = fresh(64);
+    for c in 0..64 {
+        let prio = if c < 32 { 90 } else { c - 31 };
+        put(&mut t, c, 1, prio, 1 << c);
+    }
+    for who in 64..TASKS {
+        put(&mut t, who, 1, 60, 1 << (who % 32));
+        let e = Event {
+            mask: full(32),
+            ..event(AFFINITY, who)
+        };
+        accept(&mut t, e);
+    }
+    Scene {
+        start: t,
+        events: vec![event(TICK, 0); 8],
+    }
 }
 
 /// One CPU with 511 equal tasks, and one more that wakes and sleeps, again and again: at the end of the row, or

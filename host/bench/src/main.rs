@@ -5,6 +5,7 @@ mod finder;
 mod grid;
 mod hotplug;
 mod keep;
+mod kernel;
 mod leaving;
 mod machines;
 mod night;
@@ -38,16 +39,17 @@ answers and all tables must be the same.
 Sections, all if none is named:
   check   the check of all tables
   event   an event with its check, in a mix of events
-  inner   the same mix without the check
+  inner   the same mix without the check, told that the machine is settled
+  untold  the same, not told so
   worst   inner events that cost the most
   hotplug inner events that take a CPU offline or bring it back
-  find    the finder
+  find    the finder, and its search alone against the kernel's
   replay  recordings of 65,535 events
 
   --quick         a few seconds, and less exact
   --once          each row once, for a tool that counts instructions
-  --only N,TASKS  of check, event, inner and replay the one row
-  --case TEXT     of hotplug the rows whose names begin so
+  --only N,TASKS  of check, event, inner, untold and replay the one row
+  --case TEXT     of worst, hotplug and find the rows whose names begin so
   --keep FILE     show the shortest times of this run and of all earlier ones with
                   this file, and the ratios that single runs had. Each should be
                   a build with another BENCH_SEED: where the linker puts a short
@@ -56,10 +58,11 @@ Sections, all if none is named:
 
 type Section = (&'static str, fn(&mut Run));
 
-const SECTIONS: [Section; 7] = [
+const SECTIONS: [Section; 8] = [
     ("check", grid::check),
     ("event", grid::event),
     ("inner", grid::inner),
+    ("untold", grid::untold),
     ("worst", worst::worst),
     ("hotplug", hotplug::hotplug),
     ("find", finder::find),

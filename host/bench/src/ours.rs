@@ -2,7 +2,7 @@
 
 use crate::side::{found, outcome, sum, Side, Work};
 use binding::Tables;
-use inner::Settled;
+use inner::{Checked, Settled};
 use std::hint::black_box;
 
 pub struct Ours {
@@ -40,6 +40,40 @@ impl Side for Ours {
                 found(f.answer, f.level, f.mask)
             })),
         }
+    }
+
+    fn tables(&self) -> Tables {
+        self.now.tables().clone()
+    }
+}
+
+/// The same, which is not told that the machine is settled: inner events alone.
+pub struct Untold {
+    start: Checked,
+    now: Checked,
+}
+
+impl Untold {
+    pub fn new(start: &Tables) -> Untold {
+        let start = Checked::new(start.clone());
+        let now = start.clone();
+        Untold { start, now }
+    }
+}
+
+impl Side for Untold {
+    fn restart(&mut self) {
+        self.now = self.start.clone();
+    }
+
+    fn run(&mut self, work: &Work) -> u64 {
+        let Work::Inner(events) = work else {
+            panic!("inner events alone");
+        };
+        sum(events.iter().map(|&e| {
+            let o = self.now.event(e);
+            outcome(o.answer, o.moves)
+        }))
     }
 
     fn tables(&self) -> Tables {

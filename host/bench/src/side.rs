@@ -64,7 +64,7 @@ pub fn outcome(answer: u8, moves: u32) -> u64 {
     u64::from(answer) << 32 | u64::from(moves)
 }
 
-/// A finder's answer, level and mask in one number.
+/// A finder's answer, level and mask in one number. How many masks it read is no part of it: the kernel's does not say.
 pub fn found(answer: u8, level: u8, mask: u64) -> u64 {
     mask.wrapping_add(u64::from(answer) << 8 | u64::from(level))
 }

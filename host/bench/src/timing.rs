@@ -46,6 +46,11 @@ pub struct Run {
 }
 
 impl Run {
+    /// Whether the case of this name is timed.
+    pub fn wants(&self, case: &str) -> bool {
+        case.starts_with(&self.case)
+    }
+
     /// Times one row. The key names it among all rows.
     pub fn row<W: Timed>(&mut self, key: String, sides: &mut [Box<dyn Side<W>>], work: &W) -> Row {
         let times = time(sides, work, self.effort);

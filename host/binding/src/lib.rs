@@ -126,6 +126,7 @@ extern "C" {
         mask: u64,
         found_level: *mut u8,
         found_mask: *mut u64,
+        masks_read: *mut u32,
     ) -> u8;
 }
 
@@ -145,7 +146,8 @@ pub const INVALID: u8 = 255;
 pub const SLICE_MIN: u32 = 1;
 pub const SLICE_MAX: u32 = 1000;
 pub const SLICE_DEFAULT: u32 = 25;
-/// What stands where a maker must write the full slice, also when it refuses: none that it may write.
+/// What stands where a maker must write the full slice and the finder how many masks it read, also when they refuse: no number
+/// that they may write.
 const UNWRITTEN: u32 = u32::MAX;
 
 /// The five numbers of an event.
@@ -195,12 +197,14 @@ pub struct Move {
     pub displaced: u16,
 }
 
-/// What the finder answers.
+/// What the finder answers: 0 with a level, its CPUs of the asked mask and how many masks were read, or with [`INVALID`], 0 and
+/// how many were; or a refusal, with [`INVALID`], 0 and 0.
 #[derive(Clone, Copy, Debug, PartialEq, Eq)]
 pub struct Found {
     pub answer: u8,
     pub level: u8,
     pub mask: u64,
+    pub masks_read: u32,
 }
 
 /// A machine's number of CPUs, its full slice in ticks, its fourteen tables and its online mask: any numbers, and any lengths.
@@ -333,6 +337,7 @@ impl Tables {
             answer: 0,
             level: 0,
             mask: 0,
+            masks_read: UNWRITTEN,
         };
         // Safety: as in `make_fresh`; `found` is a local of this function.
         found.answer = unsafe {
@@ -350,6 +355,7 @@ impl Tables {
                 mask,
                 &mut found.level,
                 &mut found.mask,
+                &mut found.masks_read,
             )
         };
         found
@@ -416,5 +422,28 @@ mod tests {
         assert_eq!(t.full_slice, 65536 + 25);
         assert_eq!(Tables::fresh(65), Err(1));
         assert_eq!(Tables::fresh_with_slice(64, SLICE_MIN - 1), Err(1));
+    }
+
+    /// CPU 0 has ordinary work and CPU 1 is idle. Each number is written, also if nothing is found and on a refusal.
+    #[test]
+    fn the_finder_says_how_many_masks_it_read() {
+        let mut t = Tables::fresh(2).expect("2 CPUs");
+        assert_eq!(t.event(Event::new(9, 0, 0, 1, 0)).answer, 0);
+        let found = |level, mask, masks_read| Found {
+            answer: 0,
+            level,
+            mask,
+            masks_read,
+        };
+        assert_eq!(t.find(101, 3), found(0, 2, 1));
+        assert_eq!(t.find(101, 1), found(1, 1, 2));
+        assert_eq!(t.find(1, 1), found(INVALID, 0, 1));
+        assert_eq!(t.find(0, 3), found(INVALID, 0, 0));
+        let refused = |answer| Found {
+            answer,
+            ..found(INVALID, 0, 0)
+        };
+        assert_eq!(t.find(102, 3), refused(7));
+        assert_eq!(t.find(101, 4), refused(8));
     }
 }

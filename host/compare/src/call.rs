@@ -1,6 +1,6 @@
 //! One call of a public entry, and its answer.
 
-use crate::hotplug::WAYS;
+use crate::{finder, hotplug};
 use binding::Event;
 use std::cmp::Ordering;
 use std::fmt;
@@ -21,8 +21,10 @@ pub struct Answer {
     /// What a maker hands back.
     pub full_slice: u32,
     pub moves: u32,
+    /// The finder's.
     pub level: u8,
     pub mask: u64,
+    pub masks_read: u32,
 }
 
 /// Whether an event was also run without its check of the tables, which they pass.
@@ -48,8 +50,9 @@ pub struct Agreed {
     pub among_equals: Option<Ordering>,
     /// A tick that gave a task a full slice.
     pub refilled: bool,
-    /// Which of `WAYS` it was.
-    pub hotplug: [bool; WAYS.len()],
+    /// Which of `hotplug::WAYS` it was, and which of `finder::WAYS`.
+    pub hotplug: [bool; hotplug::WAYS.len()],
+    pub finder: [bool; finder::WAYS.len()],
 }
 
 impl Answer {
@@ -60,6 +63,7 @@ impl Answer {
             moves: 0,
             level: 0,
             mask: 0,
+            masks_read: 0,
         }
     }
 }

@@ -1,7 +1,7 @@
 //! What a run has done, and the least it must have done.
 
 use crate::call::{Agreed, Call, Inner};
-use crate::hotplug::WAYS;
+use crate::{finder, hotplug};
 use std::fmt;
 
 #[derive(Clone, Debug)]
@@ -20,8 +20,9 @@ pub struct Counters {
     pub refilled: [u64; SLICES.len() + 1],
     /// New priorities for a runnable task that has others of this priority in its row: lowered, unchanged, raised.
     pub among_equals: [u64; 3],
-    /// By each of `WAYS`.
-    pub hotplug: [u64; WAYS.len()],
+    /// By each of `hotplug::WAYS`, and of `finder::WAYS`.
+    pub hotplug: [u64; hotplug::WAYS.len()],
+    pub finder: [u64; finder::WAYS.len()],
     /// By number of moves.
     pub moves: [u64; 64],
     /// Events also run without their check, on any machine; and on settled ones, told so, with the accepted of these by
@@ -45,7 +46,8 @@ impl Default for Counters {
             added_other: 0,
             refilled: [0; SLICES.len() + 1],
             among_equals: [0; 3],
-            hotplug: [0; WAYS.len()],
+            hotplug: [0; hotplug::WAYS.len()],
+            finder: [0; finder::WAYS.len()],
             moves: [0; 64],
             inner: 0,
             settled: 0,
@@ -126,9 +128,8 @@ impl Counters {
             let own = SLICES.iter().position(|&slice| slice == agreed.full_slice);
             self.refilled[own.unwrap_or(SLICES.len())] += 1;
         }
-        for (times, is) in self.hotplug.iter_mut().zip(agreed.hotplug) {
-            *times += u64::from(is);
-        }
+        add_each(&mut self.hotplug, &agreed.hotplug.map(u64::from));
+        add_each(&mut self.finder, &agreed.finder.map(u64::from));
         self.inner += u64::from(agreed.inner != Inner::No);
         if agreed.inner == Inner::Settled {
             self.settled += 1;
@@ -136,8 +137,8 @@ impl Counters {
         }
     }
 
-    /// Each refusal, each kind's acceptance, each way of a new priority among equals and each with CPUs offline was reached so
-    /// often, and 63 moves once; else what was not, in words.
+    /// Each refusal, each kind's acceptance, each way of a new priority among equals, each with CPUs offline and each of the
+    /// finder was reached so often, and 63 moves once; else what was not, in words.
     pub fn reached(&self, least: u64) -> Result<(), String> {
         for (entry, number) in REFUSALS {
             let times = self.answers[entry][number];
@@ -160,7 +161,7 @@ impl Counters {
                 return Err(format!("among equals {way} only {times} times"));
             }
         }
-        for ((way, _), times) in WAYS.iter().zip(self.hotplug) {
+        for (way, times) in self.ways() {
             if times < least {
                 return Err(format!("{way} only {times} times"));
             }
@@ -171,6 +172,13 @@ impl Counters {
             None if self.most_moves() < 63 => Err(String::from("no event had 63 moves")),
             None => self.inner_reached(least),
         }
+    }
+
+    /// The ways with CPUs offline and those of the finder, in words, and how often each came up.
+    fn ways(&self) -> impl Iterator<Item = (&'static str, u64)> {
+        let hotplug = hotplug::WAYS.map(|(way, _)| way).into_iter();
+        let finder = finder::WAYS.map(|(way, _)| way).into_iter();
+        hotplug.zip(self.hotplug).chain(finder.zip(self.finder))
     }
 
     /// The same of full slices: refused for them alone by each entry that is handed one, added with others than 100, and
@@ -245,6 +253,7 @@ impl Counters {
         add_each(&mut self.refilled, &other.refilled);
         add_each(&mut self.among_equals, &other.among_equals);
         add_each(&mut self.hotplug, &other.hotplug);
+        add_each(&mut self.finder, &other.finder);
         add_each(&mut self.moves, &other.moves);
         add_each(&mut self.settled_moves, &other.settled_moves);
     }
@@ -276,9 +285,9 @@ impl fmt::Display for Counters {
             f,
             "  new priorities among equals: lowered {lowered}, unchanged {unchanged}, raised {raised}"
         )?;
-        let ways = WAYS.iter().zip(self.hotplug);
-        let ways: Vec<String> = ways
-            .map(|((way, _), times)| format!("{way}: {times}"))
+        let ways: Vec<String> = self
+            .ways()
+            .map(|(way, times)| format!("{way}: {times}"))
             .collect();
         writeln!(f, "  {}", ways.join("\n  "))?;
         writeln!(f, "  finder found {}, none {}", self.found, self.found_none)?;
@@ -349,7 +358,8 @@ mod tests {
             added_other: times,
             refilled: [times; SLICES.len() + 1],
             among_equals: [times; 3],
-            hotplug: [times; WAYS.len()],
+            hotplug: [times; hotplug::WAYS.len()],
+            finder: [times; finder::WAYS.len()],
             moves: [times; 64],
             inner: times,
             settled: times,
@@ -391,7 +401,7 @@ mod tests {
 
     #[test]
     fn each_way_with_cpus_offline_is_asked_for() {
-        for (i, (way, _)) in WAYS.iter().enumerate() {
+        for (i, (way, _)) in hotplug::WAYS.iter().enumerate() {
             assert_eq!(said(|c| c.hotplug[i] = 8), format!("{way} only 8 times"));
         }
         for number in 10..=12 {
@@ -401,6 +411,13 @@ mod tests {
         for kind in 10..=11 {
             let words = format!("kind {kind} was accepted only 8 times");
             assert_eq!(said(|c| c.accepted[kind] = 8), words);
+        }
+    }
+
+    #[test]
+    fn each_way_of_the_finder_is_asked_for() {
+        for (i, (way, _)) in finder::WAYS.iter().enumerate() {
+            assert_eq!(said(|c| c.finder[i] = 8), format!("{way} only 8 times"));
         }
     }
 }

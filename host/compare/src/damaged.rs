@@ -64,7 +64,7 @@ fn calls(rng: &mut Rng, tables: &Tables, style: &Style, pool: &[u16]) -> Vec<Cal
     let mut calls = vec![Call::Check];
     for _ in 0..2 {
         calls.push(Call::Event(events::plausible(rng, tables, style, pool)));
-        calls.push(events::find(rng, style.n));
+        calls.push(events::find(rng, tables));
     }
     calls.push(Call::Event(events::hostile(rng, tables, style, pool)));
     let mut makers = [Call::MakeFresh, Call::MakeFreshDefault];

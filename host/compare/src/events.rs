@@ -17,7 +17,7 @@ pub fn call(rng: &mut Rng, t: &Tables, style: &Style, pool: &[u16]) -> Call {
         0 => Call::MakeFresh,
         1 => Call::MakeFreshDefault,
         2..=20 => Call::Check,
-        21..=70 => find(rng, style.n),
+        21..=70 => find(rng, t),
         71..=220 => Call::Event(hostile(rng, t, style, pool)),
         _ => Call::Event(plausible(rng, t, style, pool)),
     }
@@ -231,16 +231,28 @@ fn edge_mask(rng: &mut Rng, n: usize) -> u64 {
     }
 }
 
-/// A question to the finder, with a level about the limits now and then.
-pub fn find(rng: &mut Rng, n: usize) -> Call {
+/// A question to the finder: about one CPU, or about any, with a level about the limits now and then.
+pub fn find(rng: &mut Rng, t: &Tables) -> Call {
+    if rng.percent(40) {
+        return find_one(rng, t);
+    }
     let level = match rng.below(10) {
         0 => rng.pick(&[102, 103, 255, 256, 257, 65535, 65536 + 50, u32::MAX]),
         1..=3 => rng.pick(&[0, 1, 2, 3, 100, 101]),
         _ => rng.within(0, 101) as u32,
     };
     let mask = match rng.percent(20) {
-        true => edge_mask(rng, n),
-        false => rng.bits() & full(n),
+        true => edge_mask(rng, t.n),
+        false => rng.bits() & full(t.n),
     };
+    Call::Find(level, mask)
+}
+
+/// About one CPU, and perhaps another, with its level, the next or the highest: the search comes past all lower ones.
+fn find_one(rng: &mut Rng, t: &Tables) -> Call {
+    let (cpu, other) = (rng.below(t.n), rng.below(t.n));
+    let own = u32::from(t.levels[cpu]).min(101);
+    let level = rng.pick(&[own, (own + 1).min(101), 101]);
+    let mask = rng.pick(&[0, 0, 1 << other]) | 1u64 << cpu;
     Call::Find(level, mask)
 }

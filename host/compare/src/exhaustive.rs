@@ -171,32 +171,46 @@ pub fn run_on(
     search(size.settings(), &calls, limit, mutant, counters)
 }
 
-/// The finder with every level and every mask, on every record of up to three CPUs with these levels, or INVALID.
+/// The finder on every record of a few CPUs and levels, and on one of very many.
 pub fn finder(mutant: Mutant, counters: &mut Counters) -> Option<Failure> {
+    few_levels(mutant, counters).or_else(|| many_levels(mutant, counters))
+}
+
+/// Calls on a machine without a task, in whose record the CPUs are at these levels.
+fn at_levels(levels: &[u8], calls: Vec<Call>) -> Case {
+    let relevel = |(cpu, &level): (usize, &u8)| Damage::Relevel { cpu, level };
+    Case {
+        plan: Plan::empty(levels.len(), SLICE_DEFAULT),
+        damage: levels.iter().enumerate().map(relevel).collect(),
+        calls,
+    }
+}
+
+/// The finder with every level and every mask, on every record of up to three CPUs with these levels, or INVALID.
+fn few_levels(mutant: Mutant, counters: &mut Counters) -> Option<Failure> {
     const LEVELS: [u8; 6] = [0, 1, 63, 64, 101, INVALID];
-    let questions = |n: usize| {
-        let masks = move |level| (0..=full(n) + 1).map(move |mask| Call::Find(level, mask));
-        (0..=103).flat_map(masks).collect::<Vec<Call>>()
-    };
     for n in 1..=3u32 {
-        let calls = questions(n as usize);
+        let masks = |level| (0..=full(n as usize) + 1).map(move |mask| Call::Find(level, mask));
+        let calls: Vec<Call> = (0..=103).flat_map(masks).collect();
         for code in 0..LEVELS.len().pow(n) {
             let level = |cpu: u32| LEVELS[code / LEVELS.len().pow(cpu) % LEVELS.len()];
-            let relevel = |cpu: u32| Damage::Relevel {
-                cpu: cpu as usize,
-                level: level(cpu),
-            };
-            let case = Case {
-                plan: Plan::empty(n as usize, SLICE_DEFAULT),
-                damage: (0..n).map(relevel).collect(),
-                calls: calls.clone(),
-            };
+            let levels: Vec<u8> = (0..n).map(level).collect();
+            let case = at_levels(&levels, calls.clone());
             if let Some(failure) = case.run_counted(origin(mutant), counters) {
                 return Some(failure);
             }
         }
     }
     None
+}
+
+/// The finder with every level and each CPU alone, on a record of 64 CPUs at as many levels: it reads any number of masks, up to
+/// all 64 if it finds a level, and 63 if not.
+fn many_levels(mutant: Mutant, counters: &mut Counters) -> Option<Failure> {
+    let levels: Vec<u8> = (37..=100).collect();
+    let alone = |level| (0..64).map(move |cpu| Call::Find(level, 1 << cpu));
+    let calls = (0..=101).flat_map(alone).collect();
+    at_levels(&levels, calls).run_counted(origin(mutant), counters)
 }
 
 /// Breadth first.

@@ -9,6 +9,7 @@ pub mod demand3;
 pub mod difference;
 pub mod events;
 pub mod exhaustive;
+pub mod finder;
 pub mod generate;
 pub mod hotplug;
 pub mod mutants;

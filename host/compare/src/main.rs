@@ -14,7 +14,8 @@ use std::process::ExitCode;
 use std::time::Instant;
 
 /// The least number of times that each refusal, each kind of event, each way of a new priority among equals, each way with CPUs
-/// offline, ticks that refill with each of some full slices, and the inner event must have come up in all modes together.
+/// offline, each way of the finder, ticks that refill with each of some full slices, and the inner event must have come up in all
+/// modes together.
 const LEAST: u64 = 1000;
 
 /// The same of each kind of event and each refusal of one in recordings.
@@ -49,7 +50,7 @@ fn run_vectors(options: &Options) -> bool {
         }
     }
     println!(
-        "vectors: K1 to K12 and the cases of requests L1, L3, L7 and L8 on the library and on the reference"
+        "vectors: K1 to K12 and the cases of requests L1, L3, L4, L7 and L8 on the library and on the reference"
     );
     good
 }
@@ -312,9 +313,9 @@ fn enough(total: &Counters, replayed: &recordings::counters::Counters) -> bool {
     let reached = called.and(replayed.reached(LEAST_RECORDED));
     match &reached {
         Ok(()) => println!(
-            "each refusal, each kind of event, each way of a new priority among equals, with CPUs offline and with \
-             full slices and the inner event came up at least {LEAST} times; in recordings each refusal and kind \
-             {LEAST_RECORDED} times, and each way of a recording often enough"
+            "each refusal, each kind of event, each way of a new priority among equals, with CPUs offline, of the \
+             finder and with full slices and the inner event came up at least {LEAST} times; in recordings each \
+             refusal and kind {LEAST_RECORDED} times, and each way of a recording often enough"
         ),
         Err(says) => println!("TOO FEW: {says}"),
     }

@@ -2,10 +2,9 @@
 //! pass the check is also made by our library without the check.
 
 use crate::call::{Agreed, Answer, Call, Inner};
-use crate::demand3;
 use crate::difference::Difference;
-use crate::hotplug::{self, WAYS};
 use crate::tables::{first_difference, for_reference, right_lengths, ticks_left};
+use crate::{demand3, finder, hotplug};
 use binding::{Event, Outcome, Tables};
 use inner::{Checked, Settled};
 use reference::Mutant;
@@ -50,6 +49,10 @@ impl Pair {
     fn agree_on(&mut self, call: Call) -> Result<Agreed, Difference> {
         let full_slice = self.ours.full_slice;
         let answer = self.call_both(call)?;
+        let finder = match call {
+            Call::Find(level, _) => finder::ways(&self.ours, level, answer),
+            _ => [false; finder::WAYS.len()],
+        };
         Ok(Agreed {
             answer,
             inner: Inner::No,
@@ -57,7 +60,8 @@ impl Pair {
             slice_alone: answer.number == 1 && right_lengths(&self.ours),
             among_equals: None,
             refilled: false,
-            hotplug: [false; WAYS.len()],
+            hotplug: [false; hotplug::WAYS.len()],
+            finder,
         })
     }
 
@@ -123,6 +127,7 @@ impl Pair {
                 Answer {
                     level: found.level,
                     mask: found.mask,
+                    masks_read: found.masks_read,
                     ..Answer::plain(found.answer)
                 }
             }
@@ -153,6 +158,7 @@ impl Pair {
                 Answer {
                     level: found.level,
                     mask: found.mask,
+                    masks_read: found.masks_read,
                     ..Answer::plain(found.answer)
                 }
             }

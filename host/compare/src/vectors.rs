@@ -1,6 +1,8 @@
 //! K1 to K12 of the paper, with the paper's numbers, 100 named as the full slice and all CPUs online, and some cases of requests
-//! L1, L3, L7 and L8, on our library and on the reference. A log entry is (task, from, to, level of the destination before the move).
+//! L1, L3, L4, L7 and L8, on our library and on the reference. A log entry is (task, from, to, level of the destination before
+//! the move).
 
+mod finder;
 mod hotplug;
 mod lowered;
 pub mod nights;
@@ -8,7 +10,7 @@ mod slices;
 
 use crate::pair::for_reference_event;
 use crate::tables::{for_reference, from_reference};
-use binding::{Event, Made, Outcome, Tables};
+use binding::{Event, Found, Made, Outcome, Tables};
 use reference::Mutant;
 
 /// Whose scheduler runs the examples.
@@ -30,6 +32,8 @@ enum Step {
     Check(u8),
     /// An event, and the answer.
     Do(Event, u8),
+    /// The finder with a level and a mask, and all that it answers.
+    Find(u32, u64, Found),
     Rows(&'static [&'static [u16]]),
     Levels(&'static [u8]),
     Cpus(&'static [u8]),
@@ -294,6 +298,21 @@ impl Run {
         }
     }
 
+    fn find(&self, level: u32, mask: u64) -> Found {
+        match self.side {
+            Side::Ours => self.t.find(level, mask),
+            Side::Theirs(m) => {
+                let found = reference::find(&for_reference(&self.t), level, mask, m);
+                Found {
+                    answer: found.answer,
+                    level: found.level,
+                    mask: found.mask,
+                    masks_read: found.masks_read,
+                }
+            }
+        }
+    }
+
     /// What is not as the paper says, if anything.
     fn step(&mut self, step: &Step) -> Result<(), String> {
         match *step {
@@ -315,6 +334,13 @@ impl Run {
                 let outcome = self.event(e);
                 self.moves = outcome.moves;
                 same("answer of the event", outcome.answer, answer)
+            }
+            Find(level, mask, answer) => {
+                let found = self.find(level, mask);
+                same("answer of the finder", found.answer, answer.answer)?;
+                same("level found", found.level, answer.level)?;
+                same("CPUs found", found.mask, answer.mask)?;
+                same("masks read", found.masks_read, answer.masks_read)
             }
             Rows(rows) => {
                 let here: Vec<&[u16]> = (0..self.t.n).map(|c| self.t.row(c)).collect();
@@ -367,7 +393,8 @@ fn marked() -> [(&'static str, Vec<Step>); 12] {
 pub fn wrong(side: Side) -> Vec<String> {
     let mut wrong = Vec::new();
     let cases = marked().into_iter().chain(lowered::cases());
-    let cases = cases.chain(slices::cases()).chain(hotplug::cases());
+    let cases = cases.chain(finder::cases()).chain(slices::cases());
+    let cases = cases.chain(hotplug::cases());
     for (name, steps) in cases {
         let mut run = Run {
             side,

@@ -29,6 +29,7 @@ fn random_machines() {
     assert_eq!(counters.most_moves(), 63);
     assert!((1..=11).all(|kind| counters.accepted[kind] > 0));
     assert!(counters.hotplug.iter().all(|&times| times > 0));
+    assert!(counters.finder.iter().all(|&times| times > 0));
     assert!(counters.among_equals.iter().all(|&times| times > 50));
     assert!(counters.refilled.iter().all(|&times| times > 20));
     assert!(counters.added_other > 100);
@@ -79,6 +80,7 @@ fn finder_questions() {
     let mut counters = Counters::default();
     none(exhaustive::finder(Mutant::None, &mut counters));
     assert!(counters.found > 0 && counters.found_none > 0);
+    assert!(counters.finder.iter().all(|&times| times > 1000));
     assert!(counters.answers[FIND][7] > 0 && counters.answers[FIND][8] > 0);
 }
 

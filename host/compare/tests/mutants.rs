@@ -62,7 +62,39 @@ fn examples_show_the_errors_of_a_new_priority() {
     ]);
 }
 
-/// The errors about full slices, each in a case that shows it. That of the finder no case asks for.
+/// The errors of the finder, each in a case that shows it.
+#[test]
+fn examples_show_the_errors_of_the_finder() {
+    shown(&[
+        (Mutant::FinderTakesEqual, "find-none level found: 101"),
+        (Mutant::FinderForgetsMask, "find-once CPUs found: 37"),
+        (Mutant::FinderHighest, "find-up-to level found: 7"),
+        (Mutant::FinderNoneIsZero, "find-none level found: 0"),
+        (Mutant::FinderRefusesInvalid, "find-once answer"),
+        (Mutant::FinderChecksSlice, "find-refused answer"),
+    ]);
+}
+
+/// The same of how many masks it read.
+#[test]
+fn examples_show_the_errors_of_the_masks_read() {
+    shown(&[
+        (Mutant::FinderUncountsAnswered, "find-up-to masks read: 0"),
+        (Mutant::FinderCountsPast, "find-up-to masks read: 3"),
+        (Mutant::FinderCountsEmpty, "find-up-to masks read: 6"),
+        (Mutant::FinderCountsAllowed, "find-up-to masks read: 1"),
+        (Mutant::FinderCountsAllowed, "find-none masks read: 0"),
+        (Mutant::FinderCountsAsked, "find-none masks read: 4"),
+        (Mutant::FinderNoneReadsZero, "find-none masks read: 0"),
+        (Mutant::FinderCountsCpus, "find-once masks read: 3"),
+        (Mutant::FinderCountsFirstWord, "find-words masks read: 2"),
+        (Mutant::FinderCountsFirstWord, "find-second masks read: 0"),
+        (Mutant::FinderCountsAnew, "find-words masks read: 1"),
+        (Mutant::FinderRefusalCounts, "find-refused masks read: 3"),
+    ]);
+}
+
+/// The errors about full slices, each in a case that shows it.
 #[test]
 fn examples_show_the_errors_of_full_slices() {
     shown(&[
@@ -87,7 +119,7 @@ fn examples_show_the_errors_of_full_slices() {
 }
 
 /// The errors about CPUs that go offline and come back, each in a case that shows it. Those that need a machine which no events
-/// lead to, and that of the finder, no case asks for.
+/// lead to no case asks for.
 #[test]
 fn examples_show_the_errors_of_hotplug() {
     shown(&[

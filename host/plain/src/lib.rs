@@ -11,6 +11,8 @@ pub mod effect;
 pub mod event;
 pub mod find;
 pub mod hotplug;
+pub mod lower;
+pub mod mover;
 pub mod record;
 pub mod recording;
 pub mod replay;

@@ -33,6 +33,13 @@ impl Record {
         record
     }
 
+    /// The lowest level that a CPU has.
+    pub fn lowest(&self) -> u8 {
+        let [low, high] = self.words.map(u64::trailing_zeros);
+        let level = if low < 64 { low } else { 64 + high };
+        level as u8
+    }
+
     /// Moves a CPU to another level. The level before.
     pub fn set_level(&mut self, cpu: usize, level: u8) -> u8 {
         let before = self.leave(cpu);

@@ -1,12 +1,11 @@
 //! Migration steps until none applies.
 
 use crate::find::lowest;
+use crate::lower::Lower;
+use crate::mover::{first, foremost, rows_above};
 use crate::record::{level_of, Record};
 use crate::row;
 use crate::tables::{Lent, NOTHING, TASKS};
-
-/// CPUs that are passed over at once.
-const BLOCK: usize = 16;
 
 /// No CPU.
 pub const NOWHERE: u8 = 64;
@@ -48,12 +47,27 @@ struct Step {
     target: u8,
 }
 
-/// How many steps were taken. Each is an entry of the log.
+/// How many steps were taken. Each is an entry of the log. Mostly few who wait are above the lowest level that a CPU has.
 pub fn settle(t: &mut Lent, record: &mut Record) -> u32 {
+    let floor = prio_at(record.lowest());
+    match rows_above(t, floor) {
+        0 => 0,
+        rows => settle_rows(t, record, floor, rows),
+    }
+}
+
+/// The same where only those of these rows may be movable who are above a priority. Steps make no other task movable but
+/// whom they displace.
+#[inline(never)]
+fn settle_rows(t: &mut Lent, record: &mut Record, floor: u8, rows: u64) -> u32 {
+    let mut rows = rows;
+    let mut lower = Lower::default();
     let mut moves = 0;
-    while let Some(step) = pick(t, record) {
+    while let Some(step) = pick(t, record, floor, &mut rows, &mut lower) {
         take(t, record, step, moves);
         moves += 1;
+        rows |= 1 << step.target;
+        lower.received |= 1 << step.target;
     }
     moves as u32
 }
@@ -103,8 +117,15 @@ fn take(t: &mut Lent, record: &mut Record, step: Step, moves: usize) -> u16 {
 }
 
 /// The step that applies.
-fn pick(t: &Lent, record: &Record) -> Option<Step> {
-    foremost(t, record, 0, |task| target(t, record, task))
+fn pick(t: &Lent, record: &Record, floor: u8, rows: &mut u64, lower: &mut Lower) -> Option<Step> {
+    let (task, origin) = foremost(t, record, floor, rows, |row, floor| {
+        lower.first(t, record, row, floor)
+    })?;
+    Some(Step {
+        task,
+        origin,
+        target: target(t, record, task)?,
+    })
 }
 
 /// The same where only few tasks may be movable.
@@ -128,17 +149,21 @@ fn own_step(t: &Lent, record: &Record, task: u16) -> Option<Step> {
 
 /// Where the task goes, if some allowed CPU is below its level.
 fn target(t: &Lent, record: &Record, task: u16) -> Option<u8> {
-    let task = task as usize % TASKS;
-    let level = level_of(t.prio[task]);
-    // It waits, so its own CPU is not below it.
-    let others = t.mask[task] & !(1 << t.cpu[task]);
+    let level = level_of(row::prio_of(t.prio, task));
+    let others = others(t, task);
     if others & others.wrapping_sub(1) == 0 {
         let other = others.trailing_zeros() as u8;
         let lower = *record.levels.get(other as usize)? < level;
         return lower.then_some(other);
     }
-    let (_, cpus) = lowest(record, level as usize, others)?;
+    let (_, cpus) = lowest(record, level as usize, others, &mut 0)?;
     Some(cpus.trailing_zeros() as u8)
+}
+
+/// The CPUs that a waiting task may use, but for its own, which is not below it.
+pub fn others(t: &Lent, task: u16) -> u64 {
+    let task = task as usize % TASKS;
+    t.mask[task] & !(1 << t.cpu[task])
 }
 
 /// The foremost of those who may use the fallen CPU and are above its level. They go there: nobody was movable before,
@@ -146,103 +171,42 @@ fn target(t: &Lent, record: &Record, task: u16) -> Option<u8> {
 #[inline(never)]
 fn draw(t: &Lent, record: &Record, fallen: u8) -> Option<Step> {
     let floor = prio_at(record.levels[fallen as usize]);
-    foremost(t, record, floor, |task| there(t, task, fallen))
+    let drawn = foremost(t, record, floor, &mut rows_above(t, floor), |row, floor| {
+        first(t, row, floor, |task, _| may_use(t, task, fallen))
+    });
+    let (task, origin) = drawn?;
+    Some(Step {
+        task,
+        origin,
+        target: fallen,
+    })
 }
 
 /// The same with one more task, which is movable.
 #[inline(never)]
 fn draw_or(t: &Lent, record: &Record, fallen: u8, own: Step) -> Option<Step> {
     let floor = prio_at(record.levels[fallen as usize]);
-    let just_below = t.prio[own.task as usize] - 1;
-    let drawn = foremost(t, record, floor.max(just_below), |task| {
-        match task == own.task {
-            true => Some(own.target),
-            false => there(t, task, fallen),
-        }
+    let floor = floor.max(t.prio[own.task as usize] - 1);
+    let drawn = foremost(t, record, floor, &mut rows_above(t, floor), |row, floor| {
+        first(t, row, floor, |task, _| {
+            task == own.task || may_use(t, task, fallen)
+        })
     });
-    drawn.or(Some(own))
+    match drawn {
+        Some((task, origin)) if task != own.task => Some(Step {
+            task,
+            origin,
+            target: fallen,
+        }),
+        _ => Some(own),
+    }
 }
 
-/// The fallen CPU, if the task may use it.
-fn there(t: &Lent, task: u16, fallen: u8) -> Option<u8> {
-    let allowed = t.mask[task as usize % TASKS] >> fallen & 1 == 1;
-    allowed.then_some(fallen)
+fn may_use(t: &Lent, task: u16, cpu: u8) -> bool {
+    t.mask[task as usize % TASKS] >> cpu & 1 == 1
 }
 
 /// The priority above which a task is above this level.
 fn prio_at(level: u8) -> u8 {
     level.saturating_sub(level_of(0))
-}
-
-/// The foremost of the waiting tasks that are above a priority and have a target: that of highest priority, among equals
-/// the one on the lowest-numbered CPU, among those the earliest in its row.
-fn foremost(
-    t: &Lent,
-    record: &Record,
-    floor: u8,
-    target: impl Fn(u16) -> Option<u8>,
-) -> Option<Step> {
-    let mut best = None;
-    let mut floor = floor;
-    let mut cpus = waiting(t.counts);
-    while cpus != 0 {
-        let origin = cpus.trailing_zeros() as usize;
-        cpus &= cpus - 1;
-        // Nobody there is above the first of the row.
-        if record.levels[origin] <= level_of(floor) {
-            continue;
-        }
-        let row = &t.rows[origin][1..t.counts[origin] as usize];
-        if let Some((task, prio, target)) = first(t, row, floor, &target) {
-            best = Some(Step {
-                task,
-                origin: origin as u8,
-                target,
-            });
-            floor = prio;
-        }
-    }
-    best
-}
-
-/// The first of a row's waiting tasks that is above a priority and has a target; its priority and its target. Priorities
-/// fall along a row.
-fn first(
-    t: &Lent,
-    waiting: &[u16],
-    floor: u8,
-    target: impl Fn(u16) -> Option<u8>,
-) -> Option<(u16, u8, u8)> {
-    for &task in waiting {
-        let prio = t.prio[task as usize % TASKS];
-        if prio <= floor {
-            return None;
-        }
-        if let Some(target) = target(task) {
-            return Some((task, prio, target));
-        }
-    }
-    None
-}
-
-/// The CPUs on which a task waits, as a mask. All counts of a block are looked at before it is decided, which the
-/// compiler makes many at a time.
-fn waiting(counts: &[u16]) -> u64 {
-    let bit = |count: u16, at: usize| u64::from(count > 1) << at;
-    let mut cpus = 0;
-    let blocks = counts.chunks_exact(BLOCK);
-    let rest = blocks.remainder();
-    for (i, block) in blocks.enumerate() {
-        if block
-            .iter()
-            .fold(false, |waits, &count| waits | (count > 1))
-        {
-            let bits = (0..BLOCK).fold(0, |bits, at| bits | bit(block[at], at));
-            cpus |= bits << (BLOCK * i);
-        }
-    }
-    let from = counts.len() - rest.len();
-    (from..)
-        .zip(rest)
-        .fold(cpus, |cpus, (at, &count)| cpus | bit(count, at))
 }

@@ -1,5 +1,6 @@
 //! The plain version answers as the library does and leaves the same in every table: random calls on well-formed
-//! and on damaged tables, events from fresh machines on, which are told that the machine is settled, and recordings.
+//! and on damaged tables, events on machines that are not settled, events from fresh machines on, which are told that the
+//! machine is settled, and recordings.
 
 mod recordings;
 mod side;
@@ -72,7 +73,7 @@ fn damaged() {
         replugged += usize::from(bad.online != good.online);
         let mut pair = Pair::new(bad);
         let event = events::plausible(&mut rng, &good, &style, &pool);
-        let find = events::find(&mut rng, style.n);
+        let find = events::find(&mut rng, &good);
         let maker = rng.pick(&[Call::MakeFresh, Call::MakeFreshDefault]);
         for call in [Call::Check, find, Call::Event(event), maker] {
             pair.call(call);
@@ -130,6 +131,28 @@ fn settled_by_an_event() {
     assert!(seen.moved[10..].iter().all(|&times| times > 100));
     assert_eq!(seen.most, 63);
     assert!(seen.left > 256, "at most {} tasks left a CPU", seen.left);
+}
+
+/// Most machines are not settled whose tasks are allowed more CPUs than before: the steps are looked for among all who wait.
+#[test]
+fn not_settled() {
+    let (mut moves, mut most) = (0, 0);
+    for case in 0..1600 {
+        let (mut rng, style) = style_of(19, case);
+        let (plan, pool) = machine(&mut rng, &style);
+        let mut t = plan.tables();
+        for who in 0..t.state.len() {
+            if t.state[who] == 2 {
+                t.mask[who] |= rng.bits() & rng.bits() & full(t.n);
+            }
+        }
+        let e = events::plausible(&mut rng, &t, &style, &pool);
+        let taken = Pair::new(t).call(Call::Event(e));
+        moves += taken;
+        most = most.max(taken);
+    }
+    assert!(moves > 4_000, "only {moves} moves");
+    assert!(most > 50, "at most {most} at once");
 }
 
 /// The CPUs go out one after the other until one is left, and all come back: with no tasks, or with some that may use any.

@@ -4,7 +4,6 @@ use crate::input::Input;
 use crate::parse::Line;
 use crate::script;
 use crate::show::{Failure, Show};
-use crate::words;
 use std::io::Write;
 
 /// The lines of a text; else what to say.
@@ -19,12 +18,6 @@ pub fn show(out: &mut dyn Write, lines: &[Line]) -> Result<bool, Failure> {
         show.action(line.number, line.action)?;
     }
     let tally = show.tally;
-    writeln!(
-        out,
-        "{} accepted, {} refused, {} in all",
-        tally.accepted,
-        tally.refused,
-        words::moves(tally.moves)
-    )?;
+    writeln!(out, "{}", tally.words())?;
     Ok(tally.refused == 0)
 }

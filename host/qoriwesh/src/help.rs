@@ -3,12 +3,13 @@
 pub const MAIN: &str = "\
 qoriwesh - where SCHED_FIFO and SCHED_RR tasks run on 1 to 64 CPUs
 
-usage: qoriwesh examples [NAME ...]   show the marked examples K1 to K12
-       qoriwesh explain [FILE]        run the events of a text, one a line
-       qoriwesh replay [FILE ...]     replay recordings, and say what they give
-       qoriwesh record [FILE]         write a text of events as a recording
-       qoriwesh text [FILE]           write a recording as a text of events
-       qoriwesh help [COMMAND]        say more about a command
+usage: qoriwesh examples [NAME ...]     show the marked examples K1 to K12
+       qoriwesh explain [FILE]          run the events of a text, one a line
+       qoriwesh find [FILE] LEVEL CPUS  run them, and ask which CPUs are lowest
+       qoriwesh replay [FILE ...]       replay recordings and say what they give
+       qoriwesh record [FILE]           write a text of events as a recording
+       qoriwesh text [FILE]             write a recording as a text of events
+       qoriwesh help [COMMAND]          say more about a command
        qoriwesh --help | --version
 
 Every answer, move, row and level comes from the proved library. The tool only
@@ -24,8 +25,8 @@ CPU, 1 for one with ordinary work only, and the priority that runs plus 2. An
 offline CPU has no level.
 
 exit status: 0  all is well
-             1  an event was refused, an example is not as document 01 says, or
-                a recording is cut or stopped
+             1  an event or a question was refused, an example is not as
+                document 01 says, or a recording is cut or stopped
              2  an error: the command line, a line of the text, input or output
 ";
 
@@ -84,6 +85,37 @@ next line follows. A refused 'cpus' leaves the earlier machine; without one,
 each event is refused with 1.
 
 exit status: 0 if all was accepted, 1 if something was refused, 2 on an error.
+";
+
+pub const FIND: &str = "\
+usage: qoriwesh find [FILE] LEVEL CPUS
+
+Runs the events of a text, as 'qoriwesh help explain' describes it, and asks the
+library's finder on the machine that they lead to: which is the lowest level
+below LEVEL that one of CPUS is at? The text is in FILE, or comes from standard
+input (also for '-').
+
+LEVEL is 0 to 101; for a task of priority P it is P plus 2. CPUS is a list as in
+taskset -c or a cpuset (0-1,3 or 0-7:2) or a mask (0x0b).
+
+Of the events those that were refused are shown, then rows and levels after the
+last one, and then
+
+  asked       CPUS and LEVEL
+  found       that level and what it means, with those of CPUS that are at it;
+              or 'none'
+  masks read  how many masks of CPUs the search read: one for each level below
+              LEVEL that has a CPU, of CPUS or not, up to the level found, or
+              for all of them on 'none'
+
+A LEVEL over 101, or CPUS of which there are none or one is not there, is the
+library's to refuse: the refusal is shown with its number from document 01, and
+no mask was read. Without a machine every question is refused.
+
+What takes over a second says how far it is, if standard error is a terminal.
+
+exit status: 0 if nothing was refused, also on 'none', 1 if an event or the
+question was refused, 2 on an error.
 ";
 
 pub const REPLAY: &str = "\

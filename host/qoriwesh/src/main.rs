@@ -5,6 +5,7 @@ mod cycle;
 mod evacuation;
 mod examples;
 mod explain;
+mod find;
 mod help;
 mod input;
 mod log;
@@ -21,7 +22,9 @@ mod stdout;
 mod text;
 mod words;
 
+use find::Question;
 use input::Input;
+use parse::wrong_form;
 use recording::{End, Recording};
 use show::Failure;
 use std::env;
@@ -35,6 +38,7 @@ enum Command {
     Say(String),
     Examples(Vec<String>),
     Explain(Input),
+    Find(Input, Question),
     Replay(Vec<Input>),
     Record(Input),
     Text(Input),
@@ -76,6 +80,10 @@ fn run(command: Command) -> ExitCode {
         },
         Command::Explain(input) => match explain::read(&input) {
             Ok(lines) => finish(|out| explain::show(out, &lines).map(Status::of)),
+            Err(message) => error(&message),
+        },
+        Command::Find(input, question) => match find::Asked::read(&input, question) {
+            Ok(asked) => finish(|out| asked.show(out).map(Status::of)),
             Err(message) => error(&message),
         },
         Command::Replay(inputs) => finish(|out| night::show(out, &inputs)),
@@ -141,7 +149,7 @@ fn error(message: &str) -> ExitCode {
 fn command(args: &[OsString]) -> Result<Command, String> {
     let Some((first, rest)) = args.split_first() else {
         return Err(
-            "expected a command: examples, explain, replay, record, text or help".to_string(),
+            "expected a command: examples, explain, find, replay, record, text or help".to_string(),
         );
     };
     match first.to_str() {
@@ -150,6 +158,7 @@ fn command(args: &[OsString]) -> Result<Command, String> {
         Some("help") => help_on(rest),
         Some("examples") => examples_command(rest),
         Some("explain") => Ok(one_input(rest)?.map_or(say(help::EXPLAIN), Command::Explain)),
+        Some("find") => find_command(rest),
         Some("replay") => replay_command(rest),
         Some("record") => Ok(one_input(rest)?.map_or(say(help::RECORD), Command::Record)),
         Some("text") => Ok(one_input(rest)?.map_or(say(help::TEXT), Command::Text)),
@@ -168,6 +177,7 @@ fn help_on(rest: &[OsString]) -> Result<Command, String> {
         [command] => match command.to_str() {
             Some("examples") => help::EXAMPLES,
             Some("explain") => help::EXPLAIN,
+            Some("find") => help::FIND,
             Some("replay") => help::REPLAY,
             Some("record") => help::RECORD,
             Some("text") => help::TEXT,
@@ -206,6 +216,20 @@ fn examples_command(rest: &[OsString]) -> Result<Command, String> {
     };
     let name = |name: &&OsString| name.to_string_lossy().into_owned();
     Ok(Command::Examples(names.iter().map(name).collect()))
+}
+
+/// A file or none, then the level and the CPUs.
+fn find_command(rest: &[OsString]) -> Result<Command, String> {
+    let Some(words) = operands(rest)? else {
+        return Ok(say(help::FIND));
+    };
+    let (file, level, cpus) = match words[..] {
+        [level, cpus] => (None, level, cpus),
+        [file, level, cpus] => (Some(file.clone()), level, cpus),
+        _ => return Err(wrong_form("find [FILE] LEVEL CPUS", &words)),
+    };
+    let question = Question::read(&level.to_string_lossy(), &cpus.to_string_lossy())?;
+    Ok(Command::Find(Input::of(file), question))
 }
 
 fn replay_command(rest: &[OsString]) -> Result<Command, String> {

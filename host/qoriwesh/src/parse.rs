@@ -1,4 +1,4 @@
-//! The text of events that `explain` and `record` read: one command a line.
+//! The text of events that `explain`, `find` and `record` read: one command a line.
 //!
 //! A number that the library can be asked with is passed on, in range or not: refusing is the library's. A
 //! line is wrong only if it gives no event at all.
@@ -219,7 +219,8 @@ fn exactly<'a, const K: usize>(rest: &[&'a str], form: &str) -> Result<[&'a str;
     rest.try_into().map_err(|_| wrong_form(form, rest))
 }
 
-fn wrong_form(form: &str, rest: &[&str]) -> String {
+/// What is wrong with the words after a command.
+pub fn wrong_form<Word>(form: &str, rest: &[Word]) -> String {
     let command = form.split(' ').next().unwrap_or(form);
     let found = match rest.len() {
         0 => "nothing".to_string(),

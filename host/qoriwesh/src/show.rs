@@ -62,6 +62,15 @@ pub struct Tally {
     pub run: u64,
 }
 
+impl Tally {
+    /// `9 accepted, 1 refused, 2 moves in all`
+    pub fn words(&self) -> String {
+        let (accepted, refused) = (self.accepted, self.refused);
+        let moves = words::moves(self.moves);
+        format!("{accepted} accepted, {refused} refused, {moves} in all")
+    }
+}
+
 /// What stands before an event or a machine: its number and, of an event that has one, its stamp.
 #[derive(Clone, Copy)]
 struct Mark {
@@ -72,6 +81,8 @@ struct Mark {
 /// A machine, and where its story is told.
 pub struct Show<'a> {
     out: &'a mut dyn Write,
+    /// Of what is done, only what was refused is shown.
+    refusals: bool,
     pub tables: Tables,
     /// The tables are a machine's: until a machine is made, the library refuses every event with 1.
     made: bool,
@@ -86,11 +97,20 @@ impl<'a> Show<'a> {
     pub fn new(out: &'a mut dyn Write) -> Show<'a> {
         Show {
             out,
+            refusals: false,
             tables: Tables::zeroed(0),
             made: false,
             shown: Vec::new(),
             cycle: None,
             tally: Tally::default(),
+        }
+    }
+
+    /// Shows refusals alone.
+    pub fn refusals(out: &'a mut dyn Write) -> Show<'a> {
+        Show {
+            refusals: true,
+            ..Show::new(out)
         }
     }
 
@@ -133,7 +153,9 @@ impl<'a> Show<'a> {
         if answer == 0 {
             self.shown = render::state(&fresh);
             let title = words::machine(n, Some(made.full_slice));
-            self.titled(mark, &title, "made, all idle")?;
+            if !self.refusals {
+                self.titled(mark, &title, "made, all idle")?;
+            }
         } else {
             self.tally.refused += 1;
             let stays = match self.made {
@@ -216,7 +238,7 @@ impl<'a> Show<'a> {
 
     /// Shows accepted events without moves, and the rows after them.
     fn quiet(&mut self, mark: Mark, e: Event, times: u64, after: &Tables) -> Result<(), Failure> {
-        if times == 0 {
+        if times == 0 || self.refusals {
             return Ok(());
         }
         self.titled(mark, &words::events(e, times), &words::accepted(0))?;
@@ -229,6 +251,9 @@ impl<'a> Show<'a> {
         if step.answer != 0 {
             let why = words::refused(step.answer, event, &self.tables);
             return self.titled(mark, &title, &format!("{why}; nothing was changed"));
+        }
+        if self.refusals {
+            return Ok(());
         }
         self.titled(mark, &title, &words::accepted(step.moves.len()))?;
         for line in render::leavers(&step.leavers) {
@@ -268,6 +293,15 @@ impl<'a> Show<'a> {
         }
         self.shown = state;
         Ok(())
+    }
+
+    /// Rows and levels, if there is a machine.
+    pub fn rows(&mut self) -> Result<(), Failure> {
+        if !self.made {
+            return Ok(());
+        }
+        self.shown.clear();
+        self.state()
     }
 
     fn state(&mut self) -> Result<(), Failure> {

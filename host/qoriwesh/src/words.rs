@@ -1,7 +1,7 @@
 //! Events, answers and CPUs in words.
 
 use crate::cpulist;
-use binding::{Event, Tables, CPUS, SLICE_MAX, SLICE_MIN, TASKS};
+use binding::{Event, Tables, CPUS, LEVELS, SLICE_MAX, SLICE_MIN, TASKS};
 
 /// `CPU 3`, `CPUs 0-1` or `no CPU`.
 pub fn cpus(mask: u64) -> String {
@@ -9,6 +9,15 @@ pub fn cpus(mask: u64) -> String {
         0 => "no CPU".to_string(),
         1 => format!("CPU {}", cpulist::write(mask)),
         _ => format!("CPUs {}", cpulist::write(mask)),
+    }
+}
+
+/// What a CPU of this level does: `idle`, `ordinary work` or `priority 30`. Not of level 2, which none has.
+pub fn level(level: u8) -> String {
+    match level {
+        0 => "idle".to_string(),
+        1 => "ordinary work".to_string(),
+        _ => format!("priority {}", level - 2),
     }
 }
 
@@ -100,6 +109,18 @@ pub fn refused(answer: u8, e: Event, tables: &Tables) -> String {
 /// The refusal of a machine of these tables.
 pub fn refused_machine(answer: u8, tables: &Tables) -> String {
     format!("refused ({answer}): {}", no_machine(tables))
+}
+
+/// The refusal of a question to the finder.
+pub fn refused_question(answer: u8, level: u32, mask: u64, tables: &Tables) -> String {
+    let why = match answer {
+        1 => no_machine(tables),
+        2 => "the record is not consistent, there is no machine".to_string(),
+        7 => format!("a level is 0 to {}, not {level}", LEVELS - 1),
+        8 => wrong_mask(mask, tables.n),
+        _ => unknown(),
+    };
+    format!("refused ({answer}): {why}")
 }
 
 /// Which of the machine's two numbers is out of range, or that both are.

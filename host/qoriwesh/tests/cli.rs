@@ -18,7 +18,7 @@ fn held(out: &str, path: &str) {
     assert!(out == expected, "{path}: one of the two is longer");
 }
 
-const COMMANDS: [&str; 5] = ["examples", "explain", "replay", "record", "text"];
+const COMMANDS: [&str; 6] = ["examples", "explain", "find", "replay", "record", "text"];
 
 fn script(name: &str) -> String {
     here(name).to_str().unwrap().to_string()
@@ -225,6 +225,7 @@ fn wrong_command_lines() {
         (&["-x"], "unknown option '-x'"),
         (&["explain", "--all"], "unknown option '--all'"),
         (&["examples", "-v"], "unknown option '-v'"),
+        (&["find", "-l", "8", "0"], "unknown option '-l'"),
         (&["replay", "-n"], "unknown option '-n'"),
         (&["record", "-o"], "unknown option '-o'"),
         (&["text", "--all"], "unknown option '--all'"),
@@ -311,8 +312,13 @@ fn an_output_that_cannot_be_written_is_an_error() {
 #[test]
 fn a_closed_output_is_an_error() {
     for args in COMMANDS.into_iter().chain(["--help"]) {
+        let question = match args {
+            "find" => &["8", "0"][..],
+            _ => &[],
+        };
         let mut child = Command::new("sh")
-            .args(["-c", "exec \"$0\" \"$1\" >&-", PROGRAM, args])
+            .args(["-c", "exec \"$0\" \"$@\" >&-", PROGRAM, args])
+            .args(question)
             .stdin(Stdio::piped())
             .stderr(Stdio::piped())
             .spawn()

@@ -18,12 +18,14 @@ pub struct Outcome {
     pub moves: u32,
 }
 
-/// "None is answer 0 with level 255 and mask 0; a refusing finder gives its number with the same 255 and 0."
+/// "None is answer 0 with level 255 and mask 0; a refusing finder gives its number with the same 255 and 0." "Give also how
+/// many masks the search read".
 #[derive(Clone, Copy, Debug, PartialEq, Eq)]
 pub struct Found {
     pub answer: u8,
     pub level: u8,
     pub mask: u64,
+    pub masks_read: u32,
 }
 
 /// The full slice is "given to the maker, handed back by it (25 by a second maker told none, 0 on a refusal)".
@@ -190,36 +192,46 @@ fn set_level(t: &mut Tables, cpu: usize, level: u8) {
 
 /// "asked with N, a record, a level 0 to 101 and a mask"
 pub fn find(t: &Tables, level: u32, mask: u64, m: Mutant) -> Found {
-    let nothing = |answer| Found {
-        answer,
-        level: if m == Mutant::FinderNoneIsZero {
-            0
-        } else {
-            INVALID
-        },
-        mask: 0,
+    let record = Record::lent(t);
+    let answer = find_refusal(t, &record, level, mask, m);
+    let found = match answer {
+        0 => record.lowest_below(level, mask, m),
+        _ => None,
     };
+    let answered = found.map(|(level, _)| level);
+    let masks_read = match answer {
+        0 => record.masks_read(level, mask, answered, m),
+        _ if m == Mutant::FinderRefusalCounts => record.masks_read(level.min(101), mask, None, m),
+        _ => 0,
+    };
+    let none = match m {
+        Mutant::FinderNoneIsZero => 0,
+        _ => INVALID,
+    };
+    let (level, mask) = found.unwrap_or((none, 0));
+    Found {
+        answer,
+        level,
+        mask,
+        masks_read,
+    }
+}
+
+/// The finder's refusal numbers, in their order, or 0.
+fn find_refusal(t: &Tables, record: &Record, level: u32, mask: u64, m: Mutant) -> u8 {
     let wrong_slice = m == Mutant::FinderChecksSlice && t.full_slice(m).is_none();
     if wrong_slice || !(t.cpus_right() && t.record_sizes_right()) {
-        return nothing(1);
+        return 1;
     }
-    let record = Record::lent(t);
     let offline = m == Mutant::FinderRefusesInvalid && record.has_offline(t.n);
     if offline || !record.consistent(t.n, m) {
-        return nothing(2);
+        return 2;
     }
     if level > 101 {
-        return nothing(7);
+        return 7;
     }
-    if !mask_right(mask, t.n) {
-        return nothing(8);
-    }
-    match record.lowest_below(level, mask, m) {
-        Some((level, mask)) => Found {
-            answer: 0,
-            level,
-            mask,
-        },
-        None => nothing(0),
+    match mask_right(mask, t.n) {
+        true => 0,
+        false => 8,
     }
 }

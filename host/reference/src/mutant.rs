@@ -287,6 +287,26 @@ mutants! {
     FinderHighest,
     /// a finder that finds nothing gives level 0
     FinderNoneIsZero,
+    /// the finder does not count the mask of the answered level
+    FinderUncountsAnswered,
+    /// on none the finder counts the mask of the asked level too, if that has a CPU
+    FinderCountsAsked,
+    /// the finder counts the masks above the answered level too
+    FinderCountsPast,
+    /// a finder that finds nothing has read no mask
+    FinderNoneReadsZero,
+    /// a refusing finder counts the masks below the asked level
+    FinderRefusalCounts,
+    /// the finder counts the masks with an allowed CPU alone
+    FinderCountsAllowed,
+    /// the finder counts the CPUs in the masks that it read
+    FinderCountsCpus,
+    /// the finder counts the masks of levels without a CPU too
+    FinderCountsEmpty,
+    /// the finder does not count the masks of levels 64 and up
+    FinderCountsFirstWord,
+    /// from level 64 on the finder counts anew
+    FinderCountsAnew,
     ;
     // Those that only a replay shows.
     /// an empty recording is whole

@@ -2,6 +2,8 @@
 
 use crate::mutant::Mutant;
 use crate::tables::{allows, Tables, CPUS, INVALID, LEVELS};
+use std::collections::BTreeSet;
+use std::ops::Range;
 
 /// "for each of 102 levels a 64-bit mask of the CPUs at that level and a count of them; two 64-bit words [...];
 /// and a level for each of 64 CPUs"
@@ -89,5 +91,44 @@ impl Record {
             self.levels[*c] == lowest && (allows(mask, *c) || m == Mutant::FinderForgetsMask)
         };
         Some((lowest, (0..CPUS).filter(there).map(|c| 1u64 << c).sum()))
+    }
+
+    /// "how many masks the search read: one for each level with a CPU below the asked one, up to the answered one (all of them
+    /// on none [...])"
+    ///
+    /// Neither masks nor words are looked at: a level has a CPU if some CPU has that level.
+    pub(crate) fn masks_read(&self, asked: u32, mask: u64, answered: Option<u8>, m: Mutant) -> u32 {
+        let counted = counted(asked, answered, m);
+        let there = |c: &usize| m != Mutant::FinderCountsAllowed || allows(mask, *c);
+        let cpus = (0..self.levels.len()).filter(there);
+        let mut read: Vec<u8> = cpus.map(|c| self.levels[c]).collect();
+        read.retain(|&l| counted.contains(&l.into()));
+        let count = match m {
+            Mutant::FinderCountsCpus => read.len(),
+            Mutant::FinderCountsEmpty => counted.len(),
+            _ => BTreeSet::from_iter(read).len(),
+        };
+        count as u32
+    }
+}
+
+/// The levels "below the asked one, up to the answered one (all of them on none [...])"
+fn counted(asked: u32, answered: Option<u8>, m: Mutant) -> Range<u32> {
+    let end = match answered.map(u32::from) {
+        Some(answered) => match m {
+            Mutant::FinderCountsPast => asked,
+            Mutant::FinderUncountsAnswered => answered,
+            _ => answered + 1,
+        },
+        None => match m {
+            Mutant::FinderCountsAsked => asked + 1,
+            Mutant::FinderNoneReadsZero => 0,
+            _ => asked,
+        },
+    };
+    match m {
+        Mutant::FinderCountsFirstWord => 0..end.min(64),
+        Mutant::FinderCountsAnew if end > 64 => 64..end,
+        _ => 0..end,
     }
 }

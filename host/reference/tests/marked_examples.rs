@@ -1,7 +1,7 @@
 //! K1 to K12 of the paper on the reference alone, and the sentences of some requests. L2, "Say what was displaced": with it
 //! "K2, K5, K8 follow (the fourth numbers are 0; 22 and 12; 0)", and so do the moves of K7 and K10, to idle CPUs. L3,
-//! "Lowered priority goes in front": with it "K11 becomes [0,1]". L7, "Shorter slice by default": "K9 is run with 100 named",
-//! and so are the others here. L8, "Take a core out": K1 to K12 keep all CPUs online.
+//! "Lowered priority goes in front": with it "K11 becomes [0,1]". L4, "The finder is slow". L7, "Shorter slice by default":
+//! "K9 is run with 100 named", and so are the others here. L8, "Take a core out": K1 to K12 keep all CPUs online.
 
 use reference::{check, event, find, make_fresh, make_fresh_default, Event, Made, Mutant, Tables};
 
@@ -475,6 +475,135 @@ fn l3_a_sleeper_is_lowered() {
     assert_eq!((&run.t, run.moves), (&expected, 0));
     run.wake(1);
     assert_eq!(run.rows(), [[0, 1, 2]]);
+}
+
+/// A machine whose CPUs are at these levels, not 2. Tasks are pinned, and c is the task of CPU c.
+fn at_levels(levels: &[u8]) -> Run {
+    let mut run = Run::fresh(levels.len());
+    for (cpu, &level) in (0..).zip(levels) {
+        match level {
+            0 => &mut run,
+            1 => run.ordinary(cpu, 1),
+            255 => run.offline(cpu),
+            _ => run.add(cpu, u32::from(level) - 2, 1 << cpu).wake(cpu),
+        };
+    }
+    assert_eq!(run.t.levels[..levels.len()], *levels);
+    run
+}
+
+/// Level, mask and masks read, of a question that is not refused.
+fn found(run: &Run, level: u32, mask: u64) -> (u8, u64, u32) {
+    let found = find(&run.t, level, mask, Mutant::None);
+    assert_eq!(found.answer, 0);
+    (found.level, found.mask, found.masks_read)
+}
+
+/// "one for each level with a CPU below the asked one, up to the answered one", which is one of them.
+#[test]
+fn l4_up_to_the_answered_level() {
+    let run = at_levels(&[0, 5, 7]);
+    assert_eq!(found(&run, 8, 7), (0, 1, 1));
+    assert_eq!(found(&run, 8, 6), (5, 2, 2));
+    assert_eq!(found(&run, 8, 4), (7, 4, 3));
+    assert_eq!(found(&run, 101, 4), (7, 4, 3));
+    assert_eq!(found(&run, 6, 6), (5, 2, 2));
+    assert_eq!(found(&run, 1, 7), (0, 1, 1));
+}
+
+/// "all of them on none": below the asked one, which is itself none of them.
+#[test]
+fn l4_all_of_them_on_none() {
+    let run = at_levels(&[0, 5, 7, 101]);
+    assert_eq!(found(&run, 101, 8), (255, 0, 3));
+    assert_eq!(found(&run, 8, 8), (255, 0, 3));
+    assert_eq!(found(&run, 7, 12), (255, 0, 2));
+    assert_eq!(found(&run, 6, 12), (255, 0, 2));
+    assert_eq!(found(&run, 5, 14), (255, 0, 1));
+    assert_eq!(found(&run, 1, 14), (255, 0, 1));
+    assert_eq!(found(&run, 0, 15), (255, 0, 0));
+    let busy = at_levels(&[101, 101]);
+    assert_eq!(found(&busy, 101, 3), (255, 0, 0));
+}
+
+/// "one for each level": not one for each CPU, nor for each level without one.
+#[test]
+fn l4_levels_and_not_cpus() {
+    let run = at_levels(&[0, 1, 0, 52, 1, 0]);
+    assert_eq!(found(&run, 101, 63), (0, 37, 1));
+    assert_eq!(found(&run, 101, 4), (0, 4, 1));
+    assert_eq!(found(&run, 101, 26), (1, 18, 2));
+    assert_eq!(found(&run, 101, 8), (52, 8, 3));
+    let idle = Run::fresh(64);
+    assert_eq!(found(&idle, 101, u64::MAX), (0, u64::MAX, 1));
+}
+
+/// "the two words of level bits": levels about 64, and one word without a bit.
+#[test]
+fn l4_both_words() {
+    let run = at_levels(&[1, 63, 64, 65, 101]);
+    for (cpu, level, masks_read) in [(0, 1, 1), (1, 63, 2), (2, 64, 3), (3, 65, 4)] {
+        let alone = 1 << cpu;
+        assert_eq!(found(&run, 101, alone), (level, alone, masks_read));
+        let just_above = u32::from(level) + 1;
+        assert_eq!(found(&run, just_above, alone), (level, alone, masks_read));
+        let itself = u32::from(level);
+        assert_eq!(found(&run, itself, alone), (255, 0, masks_read - 1));
+    }
+    assert_eq!(found(&run, 101, 16), (255, 0, 4));
+    let high = at_levels(&[64, 101, 70]);
+    assert_eq!(found(&high, 64, 7), (255, 0, 0));
+    assert_eq!(found(&high, 65, 6), (255, 0, 1));
+    assert_eq!(found(&high, 101, 6), (70, 4, 2));
+    let low = at_levels(&[63, 3]);
+    assert_eq!(found(&low, 101, 1), (63, 1, 2));
+}
+
+/// 64 CPUs at as many levels: no search reads more.
+#[test]
+fn l4_as_many_levels_as_cpus() {
+    let levels: Vec<u8> = (37..=100).collect();
+    let run = at_levels(&levels);
+    for (cpu, &level) in levels.iter().enumerate() {
+        let masks_read = cpu as u32 + 1;
+        assert_eq!(found(&run, 101, 1 << cpu), (level, 1 << cpu, masks_read));
+    }
+    assert_eq!(found(&run, 100, 1 << 63), (255, 0, 63));
+}
+
+/// A CPU at INVALID is at no level.
+#[test]
+fn l4_offline_cpus_have_no_mask() {
+    let run = at_levels(&[255, 52, 255]);
+    assert_eq!(found(&run, 101, 7), (52, 2, 1));
+    assert_eq!(found(&run, 101, 5), (255, 0, 1));
+    assert_eq!(found(&run, 52, 7), (255, 0, 0));
+}
+
+/// "0 on a refusal", whatever the record holds.
+#[test]
+fn l4_a_refusal_has_read_none() {
+    let good = at_levels(&[0, 5, 7]).t;
+    let refuses = |t: &Tables, level, mask, answer| {
+        let found = find(t, level, mask, Mutant::None);
+        let numbers = (found.answer, found.level, found.mask, found.masks_read);
+        assert_eq!(numbers, (answer, 255, 0, 0));
+    };
+    refuses(&good, 102, 7, 7);
+    refuses(&good, u32::MAX, 0, 7);
+    refuses(&good, 101, 0, 8);
+    refuses(&good, 101, 15, 8);
+    for n in [0, 65] {
+        let t = Tables { n, ..good.clone() };
+        refuses(&t, 101, 7, 1);
+    }
+    let mut longer = good.clone();
+    longer.levels.push(255);
+    refuses(&longer, 101, 7, 1);
+    let mut damaged = good.clone();
+    damaged.level_words[0] |= 1 << 6;
+    refuses(&damaged, 101, 7, 2);
+    refuses(&damaged, 102, 0, 2);
 }
 
 /// "kinds 1 and 7 use that number": two equal RR tasks with each full slice, and the tick that ends the first one's.

@@ -94,7 +94,8 @@ impl Pair {
             }
             Call::Find(level, mask) => {
                 let f = self.ours.find(level, mask);
-                (vec![f.answer.into(), f.level.into(), f.mask], 0)
+                let numbers = [f.answer.into(), f.level.into(), f.mask, f.masks_read.into()];
+                (numbers.to_vec(), 0)
             }
         }
     }
@@ -110,11 +111,11 @@ impl Pair {
             }
             (Call::Find(level, mask), _, Some(record)) => {
                 let f = plain::find(self.ours.n, record, level, mask);
-                vec![f.answer.into(), f.level.into(), f.mask]
+                vec![f.answer.into(), f.level.into(), f.mask, f.masks_read.into()]
             }
             (Call::Check, ..) => vec![1],
             (Call::MakeFresh | Call::MakeFreshDefault | Call::Event(_), ..) => vec![1, 0],
-            (Call::Find(..), ..) => vec![1, 255, 0],
+            (Call::Find(..), ..) => vec![1, 255, 0, 0],
         }
     }
 
