@@ -13,7 +13,6 @@ use lib.ListN.{length, getD, set}
 use lib.Seq.{set-getD}
 use borrow.Author.Tests.{eqb-true, eqb-false, eq-eqb, ne-eqb, ltb-true}
 use Rattle.bits.specs.Bit.{bit, lowest}
-use Rattle.bits.proofs.Tests.{fails}
 use Rattle.cpupri.specs.Found.{lowestLevel, allowedAt, Marked}
 use Rattle.cpupri.proofs.Search.{marked-levels}
 use Rattle.cpupri.specs.Record.{masksOf}
@@ -33,7 +32,7 @@ use Rattle.laws.proofs.Record.{levels-below}
 use Rattle.laws.proofs.Step.{Origin, origin-row, origin-small}
 use Rattle.placement.proofs.Levels.{levels-row}
 use Rattle.movelog.specs.Entry.{moveBy}
-use Rattle.mover.specs.Foremost.{Foremost, BestOf, NoneAbove}
+use Rattle.mover.specs.Foremost.{Foremost, BestOf, OnlyAbove}
 use Rattle.hinting.specs.Hinted.{taskOption}
 use Rattle.hinting.proofs.Hints.{task-none, task-some}
 use Rattle.choosing.specs.Choosing.{Choosing, stepOf, stepBy, Leads}
@@ -144,14 +143,26 @@ module _ (m : Machine) (w : WellFormed m) where
           let k : Chosen m v = chosen m v w e in
           absurd (false≢true (sym (h (v .origin) (origin-small m v w k) (v .task) (k .waits)) ∙ k .moves))
 
-  -- nobody who waits is above a level that no CPU is below: no step applies
-  pub none-above : (l : ℕ) → ((c : ℕ) → c < m .n → l ≤ level m c) → NoneAbove m l (m .n) → next m ≡ none
-  none-above l least low =
-      none-next (λ d h u i. fails (movable m u) (λ t.
-      let f : (c : ℕ) × (c < m .n) × (allowed m u c ≡ true) × (level m c < levelOf (prioOf m u)) = movable-one m u t in
-      let a : l ≤ level m (f .0) = least (f .0) (f .1) in
-      let b : levelOf (prioOf m u) ≤ l = low d h u i in
-      omega (arith, f .3)))
+  -- at most one who waits is above a level that no CPU is below: nobody else can move
+  pub only-candidate : (l : ℕ) → ((c : ℕ) → c < m .n → l ≤ level m c) → (t : ℕ) → OnlyAbove m l (m .n) t → Limited m none (taskOption t)
+  only-candidate l least t o =
+      record {
+        small = λ c e. absurd (none-some c e);
+        waits = λ u e. is-task u e (same? t nothing);
+        only = λ u c i h a below. inl (let p = in-waiting u i in
+            let up : l < levelOf (prioOf m u) = let low : l ≤ level m c = least c h in omega arith in
+            let is : u ≡ t = o .only (p .0) (p .1) u (p .2) up in
+            task-some t (λ z. waits-task u i (is ∙ z)) ∙ ap some (sym is));
+        quiet = λ x c u d e f. absurd (none-some c f);
+      }
+    where
+      is-task : (u : ℕ) → taskOption t ≡ some u → (t ≡ nothing) ⊎ (t ≢ nothing) → In u (waiting m)
+      is-task u e (inl z) = absurd (none-some u (sym (task-none t z) ∙ e))
+      is-task u e (inr n) =
+          let w = o .waits n in
+          let s : some t ≡ some u = sym (task-some t n) ∙ e in
+          let same : t ≡ u = cc in
+          subst (λ (x : ℕ). In x (waiting m)) same (in-tails t (w .0) (m .rows) (w .2))
 
   module _ (b : Mover) (f : Foremost (movable m) m (m .n) b) where
     abbrev t : ℕ

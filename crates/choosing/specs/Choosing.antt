@@ -28,6 +28,13 @@ pub record Choosing (m : Machine) (n : ℕ) (ps cs ms ks flat lm lw ls : List �
   pub words : lw ≡ wordsOf (countsOf (levels m))
   pub levels : ls ≡ levels m
 
+-- the same where the tasks' masks, their CPUs and the levels are not lent
+pub record Watching (m : Machine) (n : ℕ) (ps ks flat lm lw : List ℕ) : Type 0 where
+  pub looking : Looking m ps (m .mask) ks flat
+  pub cpus : n ≡ m .n
+  pub masks : lm ≡ masksOf (levels m)
+  pub words : lw ≡ wordsOf (countsOf (levels m))
+
 -- ---- steps
 
 abbrev pub stepOf : Step → Option Move

@@ -8,18 +8,51 @@ ghost use Rattle.rules.specs.Machine.{Machine, taskPlaces, highestPriority};
 ghost use Rattle.rules.specs.Migration.{next};
 ghost use Rattle.rules.specs.Tables.{nothing};
 ghost use Rattle.cpupri.specs.Found.{Marked};
-ghost use Rattle.hinting.specs.Hinted.{Among};
-ghost use Rattle.choosing.specs.Choosing.{Choosing, Leads, stepOf, stepBy};
+ghost use Rattle.hinting.specs.Hinted.{Among, Hinted};
+ghost use Rattle.choosing.specs.Choosing.{Choosing, Watching, Leads, stepOf, stepBy};
 use cpupri::find::lowest_level;
 use cpupri::level::Level;
 use cpupri::record::CPUS;
 use cpupri::record::LEVELS;
 use cpupri::record::WORDS;
 use hinting::hint::Candidates;
+use hinting::hint::Hint;
 use movelog::Step;
 use mover::pick::pick;
+use mover::pick::who_above;
 use mover::scan::Test;
 use runqueue::row::NOTHING;
+
+// A hint that says more, where nothing is known: nobody can move who is not above the lowest level of any CPU, so if at most one who waits
+// is, that task is the only candidate.
+pub fn sharpen(
+    hint: Hint,
+    n: usize,
+    prio: &[u8],
+    rows: &[u16],
+    counts: &[u16],
+    masks: &[u64; LEVELS],
+    words: &[u64; WORDS],
+) -> Hint
+    requires { ⌜ ((m : Machine) × Watching m n (now prio) (now counts) (now rows) (now masks) (now words)) ⌝ }
+    ensures { λ r. ⌜ ((m : Machine) → Watching m n (old prio) (old counts) (old rows) (old masks) (old words)
+        → Hinted m hint → Hinted m r) ⌝ }
+{
+    match hint {
+        Hint::Few { fallen, new } => Hint::Few { fallen, new },
+        Hint::Unknown => {
+            let lowest = lowest_level(masks, words, LEVELS, u64::MAX) as u8;
+            let above = who_above(lowest, n, prio, rows, counts);
+            if above.several {
+                return Hint::Unknown;
+            }
+            Hint::Few {
+                fallen: CPUS,
+                new: above.task,
+            }
+        }
+    }
+}
 
 // The step that applies on a machine of n CPUs, where few can move. Its task is 65535 if none does.
 pub fn choose(

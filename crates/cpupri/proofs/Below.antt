@@ -10,13 +10,12 @@ use lib.Bits.{bitOr}
 use lib.Dec.{eqb, ltb, leb}
 use lib.ListN.{length, getD, set}
 use lib.Seq.{ext-getD}
-use borrow.Author.Tests.{eqb-true, eqb-false, eq-eqb, ne-eqb, ltb-true, ltb-false, lt-ltb, le-ltb, leb-true, leb-false, le-leb, lt-leb}
+use borrow.Author.Tests.{eqb-true, eqb-false, ltb-true, ltb-false, lt-ltb, le-ltb, leb-true, leb-false, le-leb, lt-leb}
 use Rattle.bits.specs.Bit.{bit, digit, putBit, withoutBit, tally}
 use Rattle.bits.proofs.Packed.{bit-packed, packed-set, packed-cong, packed-or, packed-none}
 use Rattle.bits.proofs.Word.{put-same}
 use Rattle.levels.specs.Level.{levelCount, cpuPlaces}
-use Rattle.levels.specs.Record.{maskAt, masksOf}
-use Rattle.levels.proofs.Moved.{mask-at}
+use Rattle.levels.specs.Record.{maskAt}
 use Rattle.levels.proofs.Table.{length-table, getD-table}
 use Rattle.cpupri.specs.Under.{underAt, underOf}
 

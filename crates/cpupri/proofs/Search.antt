@@ -2,16 +2,15 @@
 -- such level; and as many levels have a CPU as bits are set.
 -- Assumes nothing.
 use mathlib.Core.Path.{_≡_, refl, sym, ap, ap₂, _∙_, subst}
-use mathlib.Core.Bool.{Bool, true, false, not, false≢true}
-use mathlib.Core.Logic.{_≢_, _⊎_, inl, inr}
+use mathlib.Core.Bool.{Bool, true, false, not}
 use mathlib.Core.List.{List}
-use Prim.Native.Nat.{ℕ, suc, _+_, _-_, _*_, _/_, _%_, _^_, _≤_, _<_}
+use Prim.Native.Nat.{ℕ, _+_, _-_, _/_, _%_, _^_, _≤_, _<_}
 use native.Mathlib.Omega.{arith}
 use lib.Bits.{bitAnd, and-zero-l}
 use lib.Dec.{eqb, ltb}
-use lib.ListN.{length, getD}
+use lib.ListN.{getD}
 use borrow.Author.Tests.{eqb-true, eqb-false, eq-eqb, ne-eqb, ltb-true, ltb-false, not-false}
-use Rattle.bits.specs.Bit.{bit, withoutBit, putBit, first, count, lowest, weight}
+use Rattle.bits.specs.Bit.{bit, withoutBit, first, count, lowest, weight}
 use Rattle.bits.proofs.Word.{bit-put-other, bit-of-zero}
 use Rattle.bits.proofs.Search.{first-is, first-none, first-before, count-cong, count-split, weight-mod}
 use Rattle.bits.proofs.Packed.{packed-none, none-packed}
@@ -31,9 +30,6 @@ mask-count : (levels : List ℕ) (l : ℕ) → active (countAt levels l) ≡ not
 unfolding maskAt countAt
 mask-count levels l = active-is (countAt levels l) ∙ ap not (go (eqb (maskAt levels l) 0) refl)
   where
-    at : ℕ → Bool
-    at x = eqb x l
-
     go : (b : Bool) → eqb (maskAt levels l) 0 ≡ b → eqb (countAt levels l) 0 ≡ b
     go true e = eq-eqb (countAt levels l) 0 (none-packed (λ (x : ℕ). eqb x l) levels (eqb-true (maskAt levels l) 0 e))
     go false e = ne-eqb (countAt levels l) 0 (λ z. eqb-false (maskAt levels l) 0 e (packed-none (λ (x : ℕ). eqb x l) levels z))

@@ -1,8 +1,7 @@
 // The lowest-priority search (the kernel's cpupri_find): from one level that has a CPU to the next, by the two words of
 // level bits, until one has an allowed CPU. It reads one mask for each level that has a CPU.
 ghost use mathlib.Core.Path.{_≡_};
-ghost use Prim.Native.Nat.{_*_, _≤_, _<_};
-ghost use lib.ListN.{length, getD};
+ghost use Prim.Native.Nat.{_≤_};
 ghost use Rattle.bits.specs.Bit.{count};
 ghost use Rattle.bits.specs.Moments.{old};
 ghost use Rattle.levels.specs.Level.{levelCount, cpuPlaces};

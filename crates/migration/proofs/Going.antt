@@ -24,7 +24,7 @@ use Rattle.laws.proofs.Step.{origin-small}
 use Rattle.laws.specs.Limited.{orNothing}
 use Rattle.laws.proofs.Tables.{length-flat, flat-first}
 use Rattle.placement.specs.Held.{Held}
-use Rattle.choosing.specs.Choosing.{Choosing, stepOf}
+use Rattle.choosing.specs.Choosing.{Choosing, Watching, stepOf}
 use Rattle.movelog.specs.Entry.{moveBy}
 use Rattle.movelog.specs.declared.Step.{Step}
 use Rattle.migration.specs.Settling.{Settling, Ended}
@@ -60,6 +60,16 @@ to-choose s h =
       masks = ap (λ (q : Record). q .masks) (s .held .levels);
       words = ap (λ (q : Record). q .words) (s .held .levels);
       levels = ap (λ (q : Record). q .levels) (s .held .levels);
+    }
+
+pub to-watch : {m : Machine} {n : ℕ} {ps cs ms ks flat : List ℕ} {r : Record} → Settling m ps cs ms ks flat r → n ≡ m .n → Watching m n ps ks flat (r .masks) (r .words)
+unfolding recordOf
+to-watch s h =
+    record {
+      looking = record { well = s .well; prio = s .held .prio; mask = refl; counts = s .held .counts; rows = s .held .rows };
+      cpus = h;
+      masks = ap (λ (q : Record). q .masks) (s .held .levels);
+      words = ap (λ (q : Record). q .words) (s .held .levels);
     }
 
 -- ---- the steps so far

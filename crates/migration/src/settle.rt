@@ -11,6 +11,7 @@ ghost use Rattle.hinting.specs.Hinted.{Hinted, Among};
 ghost use Rattle.movelog.specs.Entry.{moveBy};
 ghost use Rattle.migration.specs.Settling.{Settling, Stepping, Ended};
 use choosing::choose;
+use choosing::sharpen;
 use choosing::step_of;
 use cpupri::find::lowest_level;
 use cpupri::record::CPUS;
@@ -25,7 +26,6 @@ use hinting::hint::nobody;
 use movelog::Step;
 use movelog::note;
 use mover::pick::pick;
-use mover::pick::waits_above;
 use mover::scan::Test;
 use runqueue::row::NOTHING;
 
@@ -53,7 +53,8 @@ pub fn settle(
         ⌜ ((m : Machine) → Settling m (old prio) (old cpu) (old mask) (old counts) (old rows) r → n ≡ m .n → Hinted m hint
         → Ended (settleAll m) (old prio) (new cpu) (new counts) (new rows) (old log) (new log) k s) ⌝ }
 {
-    match hint {
+    let known = sharpen(hint, n, prio, rows, counts, masks, words);
+    match known {
         Hint::Unknown => search(
             n,
             prio,
@@ -138,8 +139,8 @@ fn follow(
     }
 }
 
-// The steps where nothing is known. Nobody can move who is not above the lowest level of any CPU, so that mostly no more than the first
-// waiting task of each row is looked at. Else the CPUs below each level are worked out once, and kept up in each step.
+// The steps where nothing is known. The CPUs below each level are worked out once, and kept up in each step. Nobody is looked at who is not above
+// the lowest level of any CPU.
 fn search(
     n: usize,
     prio: &[u8],
@@ -162,9 +163,6 @@ fn search(
         → Ended (settleAll m) (old prio) (new cpu) (new counts) (new rows) (old log) (new log) k s) ⌝ }
 {
     let lowest = lowest_level(masks, words, LEVELS, u64::MAX) as u8;
-    if !waits_above(lowest, n, prio, rows, counts) {
-        return 0;
-    }
     let mut under = [0; LEVELS];
     fill(masks, &mut under);
     let mut steps = 0;

@@ -20,7 +20,7 @@ use Rattle.rules.specs.Lists.{In, Falling, place, occ}
 use Rattle.bits.specs.Bit.{bit}
 use Rattle.rules.specs.Machine.{Machine, taskOf, prioOf, row, level, levels, allowed, runnable, taskPlaces, highestPriority}
 use Rattle.rules.specs.Tables.{nothing}
-use Rattle.rules.specs.WellFormed.{WellFormed, Fit}
+use Rattle.rules.specs.WellFormed.{Fit}
 use Rattle.laws.proofs.Apart.{in-row, once, runnable-fit, runnable-place}
 use Rattle.laws.proofs.Choice.{movable-one}
 use Rattle.laws.proofs.Finder.{lower-movable}
@@ -34,7 +34,7 @@ use Rattle.runqueue.proofs.Flat.{count-is, rows-fit, part-held, part-taken, pla
 use Rattle.placement.specs.Held.{Held}
 use Rattle.placement.proofs.Order.{well-formed-order, holds, read-row, cpus-counted, above}
 use Rattle.mover.specs.Wanted.{meant, Told, passing, least, wanted, Searchable}
-use Rattle.mover.specs.Foremost.{Looking, BestOf, NoneAbove}
+use Rattle.mover.specs.Foremost.{Looking, BestOf, OnlyAbove}
 use Rattle.mover.specs.Waiting.{NextWaiting}
 use Rattle.mover.specs.declared.pick.Mover.{Mover}
 use Rattle.mover.specs.declared.scan.Test.{Test}
@@ -421,13 +421,54 @@ module _ {m : Machine} {ps ms ks flat : List ℕ} (k : Looking m ps ms ks flat) 
       inside (inl s) = omega (arith, place-lt u (tail (row m c)) i)
       inside (inr z) = absurd (not-in-nil u (subst (λ (q : List ℕ). In u (tail q)) z i))
 
-  -- one row more, and then some in which nobody waits
-  pub skip-low : (l c n r : ℕ) → n ≡ m .n → NextWaiting ks c n r → NoneAbove m l c → NoneAbove m l r
-  skip-low l c n r size next none d h u i = go (ltb d c) refl
+  -- before the first row there is none
+  pub none-yet : (l : ℕ) → OnlyAbove m l 0 nothing
+  none-yet l = record { waits = λ n. absurd (n refl); only = λ d h. absurd (not-suc-le-zero h) }
+
+  module _ (l c : ℕ) (hc : c < m .n) (two : 2 ≤ getD ks c 0) (t : ℕ) (old : OnlyAbove m l c t) where
+    further : (d : ℕ) × (d < c) × In t (tail (row m d)) → (d : ℕ) × (d < suc c) × In t (tail (row m d))
+    further w = (w .0, omega (arith, w .1), w .2)
+
+    -- nobody more in this row
+    pub row-adds-none : levelOf (getD ps (getD flat (c * taskPlaces + 1) 0) 0) ≤ l → OnlyAbove m l (suc c) t
+    row-adds-none h =
+        record {
+          waits = λ n. further (old .waits n);
+          only = below-next c (λ (d : ℕ). (u : ℕ) → In u (tail (row m d)) → l < levelOf (prioOf m u) → u ≡ t) (old .only)
+              (λ u i up. absurd (let low : levelOf (prioOf m u) ≤ l = row-low c hc two l h u i in let no : ⊥ = omega arith in no));
+        }
+
+    -- this row's one waiting task, and nobody before
+    pub row-adds-one : t ≡ nothing → getD ks c 0 ≡ 2 → OnlyAbove m l (suc c) (getD flat (c * taskPlaces + 1) 0)
+    row-adds-one none is-two =
+        record {
+          waits = λ n. (c, omega arith, subst (λ (u : ℕ). In u (tail (row m c))) (sym first) (in-getD (tail (row m c)) 0 (omega (arith, tail-size (length-tail (row m c))))));
+          only = below-next c (λ (d : ℕ). (u : ℕ) → In u (tail (row m d)) → l < levelOf (prioOf m u) → u ≡ getD flat (c * taskPlaces + 1) 0)
+              (λ d h u i up. absurd (a-task d (omega arith) u (tail-in u (row m d) i) (old .only d h u i up ∙ none)))
+              (λ u i up. sym (place-is u (tail (row m c)) i) ∙ ap (λ (k : ℕ). getD (tail (row m c)) k 0) (at-front u i) ∙ sym first);
+        }
+      where
+        first : getD flat (c * taskPlaces + 1) 0 ≡ getD (tail (row m c)) 0 0
+        first = stored-at c hc 1 (omega arith) ∙ sym (getD-tail (row m c) 0)
+
+        tail-size : (length (row m c) ≡ suc (length (tail (row m c)))) ⊎ (row m c ≡ []) → length (tail (row m c)) ≡ 1
+        tail-size (inl s) = let size : getD ks c 0 ≡ length (row m c) = row-count c hc in omega arith
+        tail-size (inr z) = absurd (let size : getD ks c 0 ≡ length (row m c) = row-count c hc in let e : length (row m c) ≡ 0 = ap length z in let no : ⊥ = omega arith in no)
+
+        at-front : (u : ℕ) → In u (tail (row m c)) → place u (tail (row m c)) ≡ 0
+        at-front u i = omega (arith, place-lt u (tail (row m c)) i, tail-size (length-tail (row m c)))
+
+  -- and then some rows in which nobody waits
+  pub skip-only : (l c n r t : ℕ) → n ≡ m .n → NextWaiting ks c n r → OnlyAbove m l c t → OnlyAbove m l r t
+  skip-only l c n r t size next old =
+      record {
+        waits = λ k. let w = old .waits k in (w .0, omega (arith, w .1, next .low), w .2);
+        only = λ d h u i up. go d h u i up (ltb d c) refl;
+      }
     where
-      go : (x : Bool) → ltb d c ≡ x → levelOf (prioOf m u) ≤ l
-      go true e = none d (ltb-true d c e) u i
-      go false e =
+      go : (d : ℕ) → d < r → (u : ℕ) → In u (tail (row m d)) → l < levelOf (prioOf m u) → (x : Bool) → ltb d c ≡ x → u ≡ t
+      go d h u i up true e = old .only d (ltb-true d c e) u i up
+      go d h u i up false e =
           let few : getD ks d 0 < 2 = next .none d h (ltb-false d c e) in
           let size-is : getD ks d 0 ≡ length (row m d) = row-count d (omega (arith, next .most)) in
           absurd (short (row m d) u (omega arith) i)

@@ -38,6 +38,7 @@ pub record BestOf (q : ℕ → Bool) (m : Machine) (c : ℕ) (b : Mover) : Type 
   pub floor : b .task ≡ nothing → (d : ℕ) → d < m .n → (u : ℕ) → In u (tail (row m d)) → q u ≡ true → b .priority < prioOf m u
   pub some : b .task ≢ nothing → Foremost q m c b
 
--- of those who wait in the rows below c none is above the level l
-abbrev pub NoneAbove : Machine → ℕ → ℕ → Type 0
-NoneAbove m l c = (d : ℕ) → d < c → (u : ℕ) → In u (tail (row m d)) → levelOf (prioOf m u) ≤ l
+-- of those who wait in the rows below c at most one is above the level l: the task t, which waits; none for 65535
+pub record OnlyAbove (m : Machine) (l c t : ℕ) : Type 0 where
+  pub waits : t ≢ nothing → (d : ℕ) × (d < c) × In t (tail (row m d))
+  pub only : (d : ℕ) → d < c → (u : ℕ) → In u (tail (row m d)) → l < levelOf (prioOf m u) → u ≡ t

@@ -7,7 +7,7 @@ ghost use lib.ListN.{getD};
 ghost use Rattle.bits.specs.Moments.{old};
 ghost use Rattle.rules.specs.Machine.{Machine};
 ghost use Rattle.cpupri.specs.Level.{levelOf};
-ghost use Rattle.mover.specs.Foremost.{Looking, BestOf, NoneAbove};
+ghost use Rattle.mover.specs.Foremost.{Looking, BestOf, OnlyAbove};
 ghost use Rattle.mover.specs.Waiting.{NextWaiting};
 ghost use Rattle.mover.specs.Wanted.{Asked, Told, meant, least as leastOf};
 use super::scan::Test;
@@ -79,21 +79,57 @@ fn priority_at(level: u8) -> u8
     0
 }
 
-// Whether some waiting task may be above the level. If not, none is: a row's first waiting task is its highest.
-pub fn waits_above(level: u8, n: usize, prio: &[u8], rows: &[u16], counts: &[u16]) -> bool
+// Who waits above a level: one task (65535: none), unless there are several.
+pub struct Above {
+    pub task: u16,
+    pub several: bool,
+}
+
+// Of a machine of n CPUs. It ends as soon as several may be.
+pub fn who_above(level: u8, n: usize, prio: &[u8], rows: &[u16], counts: &[u16]) -> Above
     requires { ⌜ ((m : Machine) × (Looking m (now prio) (m .mask) (now counts) (now rows) × (n ≡ m .n))) ⌝ }
-    ensures { λ b. ⌜ ((m : Machine) → Looking m (old prio) (m .mask) (old counts) (old rows) → n ≡ m .n → b ≡ false
-        → NoneAbove m level n) ⌝ }
+    ensures { λ r. ⌜ ((m : Machine) → Looking m (old prio) (m .mask) (old counts) (old rows) → n ≡ m .n → r .several ≡ false
+        → OnlyAbove m level n (r .task)) ⌝ }
 {
+    let mut found = Above {
+        task: NOTHING,
+        several: false,
+    };
     let mut cpu = next_waiting(counts, 0, n);
     while cpu < n {
-        let first = rows[cpu * PLACES + 1];
-        if level < Level::of_priority(prio[first as usize]).number {
-            return true;
+        found = who_above_with(level, found.task, cpu, prio, rows, counts);
+        if found.several {
+            return found;
         }
         cpu = next_waiting(counts, cpu + 1, n);
     }
-    false
+    found
+}
+
+// The same with one CPU more, on which a task waits: the first that waits there is the highest.
+fn who_above_with(
+    level: u8,
+    one: u16,
+    cpu: usize,
+    prio: &[u8],
+    rows: &[u16],
+    counts: &[u16],
+) -> Above
+    requires { ⌜ ((m : Machine) × (Looking m (now prio) (m .mask) (now counts) (now rows) × (cpu < m .n) × (2 ≤ getD (now counts) cpu 0))) ⌝ }
+    ensures { λ r. ⌜ ((m : Machine) → Looking m (old prio) (m .mask) (old counts) (old rows) → cpu < m .n → OnlyAbove m level cpu one
+        → r .several ≡ false → OnlyAbove m level (suc cpu) (r .task)) ⌝ }
+{
+    let first = rows[cpu * PLACES + 1];
+    if Level::of_priority(prio[first as usize]).number <= level {
+        return Above {
+            task: one,
+            several: false,
+        };
+    }
+    Above {
+        task: first,
+        several: (one != NOTHING) | (counts[cpu] != 2),
+    }
 }
 
 // The first CPU on which a task waits, from the CPU `from` on; n if there is none.

@@ -1,7 +1,7 @@
 -- `cpupri::find::lowest` meets its contract.
 -- Assumes nothing.
 use borrow.Author.Needs.{needs}
-use mathlib.Core.Path.{_≡_, sym, ap, ap₂, _∙_, subst}
+use mathlib.Core.Path.{_≡_, sym, ap, _∙_, subst}
 use mathlib.Core.List.{List}
 use Prim.Native.Nat.{ℕ, suc, _+_, _≤_, _<_}
 use native.Mathlib.Numerals.{add-one}
@@ -9,7 +9,6 @@ use native.Mathlib.Omega.{arith}
 use Rattle.bits.specs.Bit.{count}
 use Rattle.levels.specs.Level.{levelCount}
 use Rattle.cpupri.specs.Found.{allowedAt, lowestLevel, occupiedBelow, lowestFound, marked, Marked}
-use Rattle.cpupri.specs.declared.find.Found.{Found}
 use Rattle.cpupri.specs.declared.find.Found.the-variants.{Cpus, Nothing}
 use Rattle.cpupri.proofs.Found.{finds, finds-nothing}
 use Rattle.cpupri.proofs.Search.{occupied-marked}

@@ -9,7 +9,7 @@ use lib.Bits.{bitOr}
 use lib.ListN.{length, getD, set, length-set}
 use lib.Seq.{getD-set-same, getD-set-other}
 use Rattle.levels.specs.Level.{levelCount}
-use Rattle.levels.specs.Record.{maskAt, masksOf}
+use Rattle.levels.specs.Record.{masksOf}
 use Rattle.levels.proofs.Moved.{mask-at}
 use Rattle.cpupri.specs.Under.{underAt}
 use Rattle.cpupri.proofs.Below.{under-zero, under-next, under-ext}

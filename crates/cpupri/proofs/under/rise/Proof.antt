@@ -1,10 +1,9 @@
 -- `cpupri::under::rise` meets its contract. The loop's invariant: the table is as if the CPU had risen to the level at hand.
 -- Assumes nothing.
-use borrow.Author.Needs.{needs}
 use mathlib.Core.Path.{_≡_, refl, sym, ap, _∙_}
 use mathlib.Core.Bool.{Bool, true, false}
 use mathlib.Core.List.{List}
-use Prim.Native.Nat.{ℕ, suc, _+_, _-_, _≤_, _<_}
+use Prim.Native.Nat.{ℕ, _+_, _-_, _≤_, _<_}
 use native.Mathlib.Omega.{arith}
 use lib.Dec.{eqb}
 use lib.ListN.{length, getD, set, length-set}
@@ -12,7 +11,6 @@ use lib.Seq.{getD-set-same, getD-set-other}
 use borrow.Author.Tests.{eqb-true, eqb-false}
 use Rattle.bits.specs.Bit.{withoutBit}
 use Rattle.levels.specs.Level.{levelCount}
-use Rattle.cpupri.specs.Under.{underAt}
 use Rattle.cpupri.proofs.Below.{under-at, under-ext, risen, under-risen, risen-not, risen-here, risen-other}
 use Rattle.cpupri.proofs.under.rise.Statement.{statement}
 use Rattle.cpupri.proofs.under.rise.Tie as tie

@@ -4,10 +4,9 @@ use borrow.Author.Needs.{needs}
 use mathlib.Core.Path.{_≡_, refl, sym, ap, _∙_, subst}
 use mathlib.Core.List.{List}
 use mathlib.Core.Option.{some}
-use Prim.Native.Nat.{ℕ, _-_, _*_, _^_, _≤_, _<_}
+use Prim.Native.Nat.{ℕ, _-_, _^_, _≤_, _<_}
 use native.Mathlib.Omega.{arith}
 use lib.ListN.{length, getD, set}
-use borrow.Author.Tests.{not-true}
 use Rattle.cpupri.specs.Level.{levelCount}
 use Rattle.cpupri.specs.Found.{lowestLevel}
 use Rattle.cpupri.specs.Record.{lentRecord, recordOf, masksOf}
@@ -17,16 +16,14 @@ use Rattle.levels.specs.declared.record.Record.{Record}
 use Rattle.rules.specs.Machine.{Machine, level, levels, cpuPlaces}
 use Rattle.rules.specs.Migration.{Move, next, migrate}
 use Rattle.rules.specs.WellFormed.{WellFormed}
-use Rattle.laws.proofs.Finder.{lowest-of-all}
-use Rattle.mover.specs.Foremost.{Looking, NoneAbove}
 use Rattle.mover.specs.Wanted.{Told}
 use Rattle.placement.specs.Held.{Held}
 use Rattle.mover.specs.declared.scan.Test.the-variants.{Movable}
-use Rattle.choosing.specs.Choosing.{Choosing, Leads, stepOf}
-use Rattle.choosing.proofs.Steps.{prio-size, cpu-size, mask-size, words-mark, none-above, leads-best}
+use Rattle.choosing.specs.Choosing.{Choosing, Leads}
+use Rattle.choosing.proofs.Steps.{prio-size, cpu-size, mask-size, words-mark, leads-best}
 use Rattle.movelog.specs.Entry.{moveBy}
 use Rattle.migration.specs.Settling.{Settling}
-use Rattle.migration.proofs.Going.{step-none, none-taken, to-choose, Going, going-start, here, few, more-few, applies, takes, target-small, origin-low, choosing, going-end, going-on, going-cpus, going-rows, going-counts, going-log}
+use Rattle.migration.proofs.Going.{step-none, to-choose, Going, going-start, here, few, more-few, applies, takes, target-small, origin-low, choosing, going-end, going-on, going-cpus, going-rows, going-counts, going-log}
 use Rattle.migration.proofs.Told.{told-start, told-after, told-size, rises}
 use Rattle.migration.proofs.settle.search.Statement.{statement}
 use Rattle.migration.proofs.settle.search.Tie as tie
@@ -83,10 +80,6 @@ module _ (c : tie.Start Inv-loop μ-loop) where
       (lentRecord (a .masks .now) (a .tallies .now) (a .words .now) (a .levels .now)) (λ (e : Machine). Unit {0})
   first = going-start given _ tt
 
--- the rows without the masks of tasks
-bare : {m : Machine} {ps ms ks flat : List ℕ} → Looking m ps ms ks flat → Looking m ps (m .mask) ks flat
-bare l = record { well = l .well; prio = l .prio; mask = refl; counts = l .counts; rows = l .rows }
-
 -- no CPU is below the level that was found
 module _ (c : tie.After-lowest-level Inv-loop μ-loop) where
   lowest-is : (m : Machine) → let k = at.after-lowest-level c in Lent (k .start) m → k .lowest-level .result ≡ lowestLevel (masksOf (levels m)) levelCount (2 ^ 64 - 1)
@@ -113,14 +106,14 @@ module _ (c : tie.After-pick Inv-loop μ-loop) where
       leads-best ch (k .pick .result) (k .pick .ensures (g .reached) (ch .looking) (g .known) (ch .cpus))
 
 -- a step applies
-module _ (c : tie.Else2 Inv-loop μ-loop) where
+module _ (c : tie.Else1 Inv-loop μ-loop) where
   abbrev step : Move
-  step = moveBy (at.else2 c .step-of .result)
+  step = moveBy (at.else1 c .step-of .result)
 
-  stepping : let k = at.else2 c in next (going (k .at-loop) .reached) ≡ some step
+  stepping : let k = at.else1 c in next (going (k .at-loop) .reached) ≡ some step
   stepping =
-      let k = at.else2 c in
-      applies (well (k .start)) (going (k .at-loop)) (k .step-of .result) (k .step-of .ensures ∙ leads (k .after-pick) .step) (k .if2 .left)
+      let k = at.else1 c in
+      applies (well (k .start)) (going (k .at-loop)) (k .step-of .result) (k .step-of .ensures ∙ leads (k .after-pick) .step) (k .if1 .left)
 
 -- ---- the needs
 
@@ -131,28 +124,6 @@ cast-lowest : tie.Need-cast-lowest Inv-loop μ-loop
 cast-lowest c =
     let k = at.cast-lowest c in
     omega (arith, k .lowest-level .ensures, lowest-most (k .args .masks .now) levelCount (2 ^ 64 - 1))
-
-waits-above-requires : tie.Need-waits-above-requires Inv-loop μ-loop
-waits-above-requires c κs =
-    let s = at.waits-above-requires c .start in
-    (lent s, (bare (begins s (lent s) (given s) (counted s) .looking), counted s))
-
-same-length : tie.Need-same-length Inv-loop μ-loop
-same-length c = search needs
-
-same-length-2 : tie.Need-same-length-2 Inv-loop μ-loop
-same-length-2 c = search needs
-
--- nobody who waits is above the lowest level: no step is taken
-returns : tie.Need-returns Inv-loop μ-loop
-returns c = λ m s e.
-    let k = at.returns c in
-    let low : NoneAbove m (k .lowest-level .result) (k .args .n) =
-    k .waits-above .ensures m (bare (to-choose {n = k .args .n} s e .looking)) e (not-true (k .waits-above .result) (k .if1 .taken)) in
-    none-taken s
-    (none-above m (s .well) (k .lowest-level .result)
-    (λ d h. subst (λ (i : ℕ). i ≤ level m d) (sym (lowest-is (k .after-lowest-level) m s)) (lowest-of-all m (s .well) d h))
-    (subst (NoneAbove m (k .lowest-level .result)) e low))
 
 fill-requires : tie.Need-fill-requires Inv-loop μ-loop
 fill-requires c κs = (search needs, refl)
@@ -175,35 +146,35 @@ step-of-requires c κs =
     let ch = choosing (well (k .start)) (going (k .at-loop)) (counted (k .start)) in
     (prio-size ch, (cpu-size ch, (mask-size ch, (leads (k .after-pick) .task, words-mark ch))))
 
-same-length-3 : tie.Need-same-length-3 Inv-loop μ-loop
-same-length-3 c =
-    let k = at.same-length-3 c in
+same-length : tie.Need-same-length Inv-loop μ-loop
+same-length c =
+    let k = at.same-length c in
     let w = well (k .start) in
     going-cpus w (going (k .at-loop)) ∙ sym (going-cpus w (first (k .start)))
 
+same-length-2 : tie.Need-same-length-2 Inv-loop μ-loop
+same-length-2 c = let k = at.same-length c in let w = well (k .start) in going-rows w (going (k .at-loop)) ∙ sym (going-rows w (first (k .start)))
+
+same-length-3 : tie.Need-same-length-3 Inv-loop μ-loop
+same-length-3 c = let k = at.same-length c in let w = well (k .start) in going-counts w (going (k .at-loop)) ∙ sym (going-counts w (first (k .start)))
+
 same-length-4 : tie.Need-same-length-4 Inv-loop μ-loop
-same-length-4 c = let k = at.same-length-3 c in let w = well (k .start) in going-rows w (going (k .at-loop)) ∙ sym (going-rows w (first (k .start)))
+same-length-4 c = let k = at.same-length c in going-log (well (k .start)) (going (k .at-loop)) (k .pre .1)
 
-same-length-5 : tie.Need-same-length-5 Inv-loop μ-loop
-same-length-5 c = let k = at.same-length-3 c in let w = well (k .start) in going-counts w (going (k .at-loop)) ∙ sym (going-counts w (first (k .start)))
-
-same-length-6 : tie.Need-same-length-6 Inv-loop μ-loop
-same-length-6 c = let k = at.same-length-3 c in going-log (well (k .start)) (going (k .at-loop)) (k .pre .1)
-
-returns-2 : tie.Need-returns-2 Inv-loop μ-loop
-returns-2 c = λ m s e.
-    let k = at.returns-2 c in
+returns : tie.Need-returns Inv-loop μ-loop
+returns c = λ m s e.
+    let k = at.returns c in
     let g = k .loop .inv m s e in
     let ch = choosing (s .well) g e in
     let led = leads-best ch (k .pick .result) (k .pick .ensures (g .reached) (ch .looking) (g .known) (ch .cpus)) in
-    going-end (s .well) g (sym (k .step-of .ensures ∙ led .step) ∙ step-none (k .step-of .result) (k .if2 .taken))
+    going-end (s .well) g (sym (k .step-of .ensures ∙ led .step) ∙ step-none (k .step-of .result) (k .if1 .taken))
 
 note-requires : tie.Need-note-requires Inv-loop μ-loop
 note-requires c κs =
     let k = at.note-requires c in
     let w = well (k .start) in
     let g = going (k .at-loop) in
-    let n = stepping (k .else2) in
+    let n = stepping (k .else1) in
     let l = more-few w g n in
     let o = origin-low w g n in
     let d = target-small w g n in
@@ -216,19 +187,19 @@ migrate-requires c κs =
     let k = at.migrate-requires c in
     let w = well (k .start) in
     let g = going (k .at-loop) in
-    ((g .reached, record { well = here w g; held = g .held; applies = stepping (k .else2) }), going-cpus w g)
+    ((g .reached, record { well = here w g; held = g .held; applies = stepping (k .else1) }), going-cpus w g)
 
 -- what a step leaves: the machine after it, and the destination's level, which rose
 module _ (c : tie.After-migrate Inv-loop μ-loop) where
   abbrev moved : Machine
-  moved = let k = at.after-migrate c in migrate (step (k .else2)) (going (k .at-loop) .reached)
+  moved = let k = at.after-migrate c in migrate (step (k .else1)) (going (k .at-loop) .reached)
 
   left : let k = at.after-migrate c in let o = k .migrate-last in
       Held moved (k .args .prio .now) (o .counts) (o .rows) (lentRecord (o .masks) (o .tallies) (o .words) (o .levels))
   left =
       let k = at.after-migrate c in
       let g = going (k .at-loop) in
-      k .migrate .ensures .0 (g .reached) (record { well = here (well (k .start)) g; held = g .held; applies = stepping (k .else2) })
+      k .migrate .ensures .0 (g .reached) (record { well = here (well (k .start)) g; held = g .held; applies = stepping (k .else1) })
 
   levels-now : at.after-migrate c .migrate-last .levels ≡ levels moved
   unfolding recordOf
@@ -241,13 +212,13 @@ module _ (c : tie.After-migrate Inv-loop μ-loop) where
       let w = well (k .start) in
       let g = going (k .at-loop) in
       subst (λ (ls : List ℕ). (s .displaced ≤ getD ls (s .target) 0) × (getD ls (s .target) 0 < levelCount)) (sym levels-now)
-      (rises (g .reached) (here w g) (step (k .else2)) (takes w g (stepping (k .else2))))
+      (rises (g .reached) (here w g) (step (k .else1)) (takes w g (stepping (k .else1))))
 
   small : at.after-migrate c .step-of .result .target < cpuPlaces
   small =
       let k = at.after-migrate c in
       let w = well (k .start) in
-      omega (arith, target-small w (going (k .at-loop)) (stepping (k .else2)), w .shape .cpus)
+      omega (arith, target-small w (going (k .at-loop)) (stepping (k .else1)), w .shape .cpus)
 
 element-copy-out-rise : tie.Need-element-copy-out-rise Inv-loop μ-loop
 element-copy-out-rise c = let k = at.element-copy-out-rise c in small (k .after-migrate)
@@ -281,7 +252,7 @@ loop-again c = λ m s e.
     let g = k .loop .inv m s e in
     let ch = choosing w g e in
     let led = leads-best ch (k .pick .result) (k .pick .ensures (g .reached) (ch .looking) (g .known) (ch .cpus)) in
-    let n = applies w g (k .step-of .result) (k .step-of .ensures ∙ led .step) (k .if2 .left) in
+    let n = applies w g (k .step-of .result) (k .step-of .ensures ∙ led .step) (k .if1 .left) in
     let l = more-few w g n in
     let z = w .shape .cpus in
     let moved = k .migrate .ensures .0 (g .reached) (record { well = here w g; held = g .held; applies = n }) in
@@ -295,19 +266,15 @@ search-spec =
     μ-loop
     lowest-level-requires
     cast-lowest
-    waits-above-requires
-    same-length
-    same-length-2
-    returns
     fill-requires
     loop-holds
     pick-requires
     step-of-requires
+    same-length
+    same-length-2
     same-length-3
     same-length-4
-    same-length-5
-    same-length-6
-    returns-2
+    returns
     note-requires
     migrate-requires
     element-copy-out-rise

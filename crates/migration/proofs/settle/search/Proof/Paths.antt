@@ -15,17 +15,8 @@ module _ {i0 : tie.InvT-loop} {i1 : tie.MeasureT-loop} where
   abbrev pub after-lowest-level : (c : tie.After-lowest-level i0 i1) → let b = start (c .before .before .before .before .before .before .before .before .before) in record { args : typeOf (b .args); pre : typeOf (b .pre); start : typeOf (b .start); lowest-level : typeOf (c .lowest-level); after-lowest-level : tie.After-lowest-level i0 i1 }
   after-lowest-level c = let b = start (c .before .before .before .before .before .before .before .before .before) in record { args = b .args; pre = b .pre; start = b .start; lowest-level = c .lowest-level; after-lowest-level = c }
 
-  abbrev pub after-waits-above : (c : tie.After-waits-above i0 i1) → let b = after-lowest-level (c .before .before .before) in record { args : typeOf (b .args); pre : typeOf (b .pre); start : typeOf (b .start); lowest-level : typeOf (b .lowest-level); after-lowest-level : typeOf (b .after-lowest-level); waits-above : typeOf (c .waits-above) }
-  after-waits-above c = let b = after-lowest-level (c .before .before .before) in record { args = b .args; pre = b .pre; start = b .start; lowest-level = b .lowest-level; after-lowest-level = b .after-lowest-level; waits-above = c .waits-above }
-
-  abbrev pub then1 : (c : tie.Then1 i0 i1) → let b = after-waits-above (c .before) in record { args : typeOf (b .args); lowest-level : typeOf (b .lowest-level); after-lowest-level : typeOf (b .after-lowest-level); waits-above : typeOf (b .waits-above); if1 : typeOf (c .if1) }
-  then1 c = let b = after-waits-above (c .before) in record { args = b .args; lowest-level = b .lowest-level; after-lowest-level = b .after-lowest-level; waits-above = b .waits-above; if1 = c .if1 }
-
-  abbrev pub else1 : (c : tie.Else1 i0 i1) → let b = after-waits-above (c .before) in record { args : typeOf (b .args); pre : typeOf (b .pre); start : typeOf (b .start); lowest-level : typeOf (b .lowest-level); after-lowest-level : typeOf (b .after-lowest-level) }
-  else1 c = let b = after-waits-above (c .before) in record { args = b .args; pre = b .pre; start = b .start; lowest-level = b .lowest-level; after-lowest-level = b .after-lowest-level }
-
-  abbrev pub after-fill : (c : tie.After-fill i0 i1) → let b = else1 (c .before .before .before) in record { args : typeOf (b .args); pre : typeOf (b .pre); start : typeOf (b .start); lowest-level : typeOf (b .lowest-level); after-lowest-level : typeOf (b .after-lowest-level); fill : typeOf (c .fill) }
-  after-fill c = let b = else1 (c .before .before .before) in record { args = b .args; pre = b .pre; start = b .start; lowest-level = b .lowest-level; after-lowest-level = b .after-lowest-level; fill = c .fill }
+  abbrev pub after-fill : (c : tie.After-fill i0 i1) → let b = after-lowest-level (c .before .before .before) in record { args : typeOf (b .args); pre : typeOf (b .pre); start : typeOf (b .start); lowest-level : typeOf (b .lowest-level); after-lowest-level : typeOf (b .after-lowest-level); fill : typeOf (c .fill) }
+  after-fill c = let b = after-lowest-level (c .before .before .before) in record { args = b .args; pre = b .pre; start = b .start; lowest-level = b .lowest-level; after-lowest-level = b .after-lowest-level; fill = c .fill }
 
   abbrev pub at-loop : (c : tie.At-loop i0 i1) → let b = after-fill (c .before) in record { args : typeOf (b .args); pre : typeOf (b .pre); start : typeOf (b .start); lowest-level : typeOf (b .lowest-level); loop : typeOf (c .loop); at-loop : tie.At-loop i0 i1 }
   at-loop c = let b = after-fill (c .before) in record { args = b .args; pre = b .pre; start = b .start; lowest-level = b .lowest-level; loop = c .loop; at-loop = c }
@@ -36,32 +27,26 @@ module _ {i0 : tie.InvT-loop} {i1 : tie.MeasureT-loop} where
   abbrev pub after-step-of : (c : tie.After-step-of i0 i1) → let b = after-pick (c .before .before .before .before) in record { args : typeOf (b .args); pre : typeOf (b .pre); start : typeOf (b .start); lowest-level : typeOf (b .lowest-level); loop : typeOf (b .loop); at-loop : typeOf (b .at-loop); pick : typeOf (b .pick); after-pick : typeOf (b .after-pick); step-of : typeOf (c .step-of) }
   after-step-of c = let b = after-pick (c .before .before .before .before) in record { args = b .args; pre = b .pre; start = b .start; lowest-level = b .lowest-level; loop = b .loop; at-loop = b .at-loop; pick = b .pick; after-pick = b .after-pick; step-of = c .step-of }
 
-  abbrev pub then2 : (c : tie.Then2 i0 i1) → let b = after-step-of (c .before .before) in record { pre : typeOf (b .pre); start : typeOf (b .start); loop : typeOf (b .loop); at-loop : typeOf (b .at-loop); pick : typeOf (b .pick); step-of : typeOf (b .step-of); if2 : typeOf (c .if2) }
-  then2 c = let b = after-step-of (c .before .before) in record { pre = b .pre; start = b .start; loop = b .loop; at-loop = b .at-loop; pick = b .pick; step-of = b .step-of; if2 = c .if2 }
+  abbrev pub then1 : (c : tie.Then1 i0 i1) → let b = after-step-of (c .before .before) in record { pre : typeOf (b .pre); start : typeOf (b .start); loop : typeOf (b .loop); at-loop : typeOf (b .at-loop); pick : typeOf (b .pick); step-of : typeOf (b .step-of); if1 : typeOf (c .if1) }
+  then1 c = let b = after-step-of (c .before .before) in record { pre = b .pre; start = b .start; loop = b .loop; at-loop = b .at-loop; pick = b .pick; step-of = b .step-of; if1 = c .if1 }
 
-  abbrev pub else2 : (c : tie.Else2 i0 i1) → let b = after-step-of (c .before .before) in record { args : typeOf (b .args); pre : typeOf (b .pre); start : typeOf (b .start); lowest-level : typeOf (b .lowest-level); loop : typeOf (b .loop); at-loop : typeOf (b .at-loop); pick : typeOf (b .pick); after-pick : typeOf (b .after-pick); step-of : typeOf (b .step-of); if2 : typeOf (c .if2); else2 : tie.Else2 i0 i1 }
-  else2 c = let b = after-step-of (c .before .before) in record { args = b .args; pre = b .pre; start = b .start; lowest-level = b .lowest-level; loop = b .loop; at-loop = b .at-loop; pick = b .pick; after-pick = b .after-pick; step-of = b .step-of; if2 = c .if2; else2 = c }
+  abbrev pub else1 : (c : tie.Else1 i0 i1) → let b = after-step-of (c .before .before) in record { args : typeOf (b .args); pre : typeOf (b .pre); start : typeOf (b .start); lowest-level : typeOf (b .lowest-level); loop : typeOf (b .loop); at-loop : typeOf (b .at-loop); pick : typeOf (b .pick); after-pick : typeOf (b .after-pick); step-of : typeOf (b .step-of); if1 : typeOf (c .if1); else1 : tie.Else1 i0 i1 }
+  else1 c = let b = after-step-of (c .before .before) in record { args = b .args; pre = b .pre; start = b .start; lowest-level = b .lowest-level; loop = b .loop; at-loop = b .at-loop; pick = b .pick; after-pick = b .after-pick; step-of = b .step-of; if1 = c .if1; else1 = c }
 
-  abbrev pub after-note : (c : tie.After-note i0 i1) → let b = else2 (c .before .before) in record { args : typeOf (b .args); pre : typeOf (b .pre); start : typeOf (b .start); lowest-level : typeOf (b .lowest-level); loop : typeOf (b .loop); at-loop : typeOf (b .at-loop); pick : typeOf (b .pick); step-of : typeOf (b .step-of); if2 : typeOf (b .if2); else2 : typeOf (b .else2); note : typeOf (c .note) }
-  after-note c = let b = else2 (c .before .before) in record { args = b .args; pre = b .pre; start = b .start; lowest-level = b .lowest-level; loop = b .loop; at-loop = b .at-loop; pick = b .pick; step-of = b .step-of; if2 = b .if2; else2 = b .else2; note = c .note }
+  abbrev pub after-note : (c : tie.After-note i0 i1) → let b = else1 (c .before .before) in record { args : typeOf (b .args); pre : typeOf (b .pre); start : typeOf (b .start); lowest-level : typeOf (b .lowest-level); loop : typeOf (b .loop); at-loop : typeOf (b .at-loop); pick : typeOf (b .pick); step-of : typeOf (b .step-of); if1 : typeOf (b .if1); else1 : typeOf (b .else1); note : typeOf (c .note) }
+  after-note c = let b = else1 (c .before .before) in record { args = b .args; pre = b .pre; start = b .start; lowest-level = b .lowest-level; loop = b .loop; at-loop = b .at-loop; pick = b .pick; step-of = b .step-of; if1 = b .if1; else1 = b .else1; note = c .note }
 
-  abbrev pub after-migrate : (c : tie.After-migrate i0 i1) → let b = after-note (c .before .before .before .before .before .before .before .before .before .before) in record { args : typeOf (b .args); pre : typeOf (b .pre); start : typeOf (b .start); lowest-level : typeOf (b .lowest-level); loop : typeOf (b .loop); at-loop : typeOf (b .at-loop); pick : typeOf (b .pick); step-of : typeOf (b .step-of); if2 : typeOf (b .if2); else2 : typeOf (b .else2); note : typeOf (b .note); migrate : typeOf (c .migrate); migrate-last : record { rows : List ℕ; counts : List ℕ; cpus : List ℕ; masks : List ℕ; tallies : List ℕ; words : List ℕ; levels : List ℕ }; after-migrate : tie.After-migrate i0 i1 }
-  after-migrate c = let b = after-note (c .before .before .before .before .before .before .before .before .before .before) in record { args = b .args; pre = b .pre; start = b .start; lowest-level = b .lowest-level; loop = b .loop; at-loop = b .at-loop; pick = b .pick; step-of = b .step-of; if2 = b .if2; else2 = b .else2; note = b .note; migrate = c .migrate; migrate-last = record { rows = c .migrate .last .0; counts = c .migrate .last .1 .0; cpus = c .migrate .last .1 .1 .1 .0; masks = c .migrate .last .1 .1 .1 .1 .0; tallies = c .migrate .last .1 .1 .1 .1 .1 .0; words = c .migrate .last .1 .1 .1 .1 .1 .1 .0; levels = c .migrate .last .1 .1 .1 .1 .1 .1 .1 .0 }; after-migrate = c }
+  abbrev pub after-migrate : (c : tie.After-migrate i0 i1) → let b = after-note (c .before .before .before .before .before .before .before .before .before .before) in record { args : typeOf (b .args); pre : typeOf (b .pre); start : typeOf (b .start); lowest-level : typeOf (b .lowest-level); loop : typeOf (b .loop); at-loop : typeOf (b .at-loop); pick : typeOf (b .pick); step-of : typeOf (b .step-of); if1 : typeOf (b .if1); else1 : typeOf (b .else1); note : typeOf (b .note); migrate : typeOf (c .migrate); migrate-last : record { rows : List ℕ; counts : List ℕ; cpus : List ℕ; masks : List ℕ; tallies : List ℕ; words : List ℕ; levels : List ℕ }; after-migrate : tie.After-migrate i0 i1 }
+  after-migrate c = let b = after-note (c .before .before .before .before .before .before .before .before .before .before) in record { args = b .args; pre = b .pre; start = b .start; lowest-level = b .lowest-level; loop = b .loop; at-loop = b .at-loop; pick = b .pick; step-of = b .step-of; if1 = b .if1; else1 = b .else1; note = b .note; migrate = c .migrate; migrate-last = record { rows = c .migrate .last .0; counts = c .migrate .last .1 .0; cpus = c .migrate .last .1 .1 .1 .0; masks = c .migrate .last .1 .1 .1 .1 .0; tallies = c .migrate .last .1 .1 .1 .1 .1 .0; words = c .migrate .last .1 .1 .1 .1 .1 .1 .0; levels = c .migrate .last .1 .1 .1 .1 .1 .1 .1 .0 }; after-migrate = c }
 
-  abbrev pub after-rise : (c : tie.After-rise i0 i1) → let b = after-migrate (c .before .before .before .before .before .before .before .before .before) in record { pre : typeOf (b .pre); start : typeOf (b .start); lowest-level : typeOf (b .lowest-level); loop : typeOf (b .loop); at-loop : typeOf (b .at-loop); pick : typeOf (b .pick); step-of : typeOf (b .step-of); if2 : typeOf (b .if2); note : typeOf (b .note); migrate : typeOf (b .migrate); rise : typeOf (c .rise); rise-last : record { under : List ℕ } }
-  after-rise c = let b = after-migrate (c .before .before .before .before .before .before .before .before .before) in record { pre = b .pre; start = b .start; lowest-level = b .lowest-level; loop = b .loop; at-loop = b .at-loop; pick = b .pick; step-of = b .step-of; if2 = b .if2; note = b .note; migrate = b .migrate; rise = c .rise; rise-last = record { under = c .rise .last .0 } }
+  abbrev pub after-rise : (c : tie.After-rise i0 i1) → let b = after-migrate (c .before .before .before .before .before .before .before .before .before) in record { pre : typeOf (b .pre); start : typeOf (b .start); lowest-level : typeOf (b .lowest-level); loop : typeOf (b .loop); at-loop : typeOf (b .at-loop); pick : typeOf (b .pick); step-of : typeOf (b .step-of); if1 : typeOf (b .if1); note : typeOf (b .note); migrate : typeOf (b .migrate); rise : typeOf (c .rise); rise-last : record { under : List ℕ } }
+  after-rise c = let b = after-migrate (c .before .before .before .before .before .before .before .before .before) in record { pre = b .pre; start = b .start; lowest-level = b .lowest-level; loop = b .loop; at-loop = b .at-loop; pick = b .pick; step-of = b .step-of; if1 = b .if1; note = b .note; migrate = b .migrate; rise = c .rise; rise-last = record { under = c .rise .last .0 } }
 
   abbrev pub lowest-level-requires : (c : tie.After-lowest-level-arg2 i0 i1) → typeOf (start (c .before .before .before .before .before .before .before .before))
   lowest-level-requires c = start (c .before .before .before .before .before .before .before .before)
 
   abbrev pub cast-lowest : (c : tie.After-lowest-level i0 i1) → typeOf (after-lowest-level c)
   cast-lowest c = after-lowest-level c
-
-  abbrev pub waits-above-requires : (c : tie.After-waits-above-arg2 i0 i1) → typeOf (after-lowest-level (c .before .before))
-  waits-above-requires c = after-lowest-level (c .before .before)
-
-  abbrev pub returns : (c : tie.Then1 i0 i1) → typeOf (then1 c)
-  returns c = then1 c
 
   abbrev pub loop-holds : (c : tie.After-fill i0 i1) → typeOf (after-fill c)
   loop-holds c = after-fill c
@@ -72,14 +57,14 @@ module _ {i0 : tie.InvT-loop} {i1 : tie.MeasureT-loop} where
   abbrev pub step-of-requires : (c : tie.After-step-of-arg3 i0 i1) → typeOf (after-pick (c .before .before .before))
   step-of-requires c = after-pick (c .before .before .before)
 
-  abbrev pub same-length-3 : (c : tie.Then2 i0 i1) → typeOf (then2 c)
-  same-length-3 c = then2 c
+  abbrev pub same-length : (c : tie.Then1 i0 i1) → typeOf (then1 c)
+  same-length c = then1 c
 
-  abbrev pub returns-2 : (c : tie.Then2 i0 i1) → typeOf (then2 c)
-  returns-2 c = then2 c
+  abbrev pub returns : (c : tie.Then1 i0 i1) → typeOf (then1 c)
+  returns c = then1 c
 
-  abbrev pub note-requires : (c : tie.After-note-arg i0 i1) → typeOf (else2 (c .before))
-  note-requires c = else2 (c .before)
+  abbrev pub note-requires : (c : tie.After-note-arg i0 i1) → typeOf (else1 (c .before))
+  note-requires c = else1 (c .before)
 
   abbrev pub migrate-requires : (c : tie.After-migrate-arg7 i0 i1) → typeOf (after-note (c .before .before .before .before .before .before .before .before .before))
   migrate-requires c = after-note (c .before .before .before .before .before .before .before .before .before)
@@ -99,8 +84,8 @@ module _ {i0 : tie.InvT-loop} {i1 : tie.MeasureT-loop} where
   abbrev pub loop-again : (c : tie.After-rise i0 i1) → typeOf (after-rise c)
   loop-again c = after-rise c
 
-pub close : {M : Type 1} → (i0 : tie.InvT-loop) → (i1 : tie.MeasureT-loop) → tie.Need-lowest-level-requires i0 i1 → tie.Need-cast-lowest i0 i1 → tie.Need-waits-above-requires i0 i1 → tie.Need-same-length i0 i1 → tie.Need-same-length-2 i0 i1 → tie.Need-returns i0 i1 → tie.Need-fill-requires i0 i1 → tie.Need-loop-holds i0 i1 → tie.Need-pick-requires i0 i1 → tie.Need-step-of-requires i0 i1 → tie.Need-same-length-3 i0 i1 → tie.Need-same-length-4 i0 i1 → tie.Need-same-length-5 i0 i1 → tie.Need-same-length-6 i0 i1 → tie.Need-returns-2 i0 i1 → tie.Need-note-requires i0 i1 → tie.Need-migrate-requires i0 i1 → tie.Need-element-copy-out-rise i0 i1 → tie.Need-rise-requires i0 i1 → tie.Need-add-steps i0 i1 → tie.Need-loop-less i0 i1 → tie.Need-loop-again i0 i1 → statement M
-close i0 i1 a0 a1 a2 a3 a4 a5 a6 a7 a8 a9 a10 a11 a12 a13 a14 a15 a16 a17 a18 a19 a20 a21 =
+pub close : {M : Type 1} → (i0 : tie.InvT-loop) → (i1 : tie.MeasureT-loop) → tie.Need-lowest-level-requires i0 i1 → tie.Need-cast-lowest i0 i1 → tie.Need-fill-requires i0 i1 → tie.Need-loop-holds i0 i1 → tie.Need-pick-requires i0 i1 → tie.Need-step-of-requires i0 i1 → tie.Need-same-length i0 i1 → tie.Need-same-length-2 i0 i1 → tie.Need-same-length-3 i0 i1 → tie.Need-same-length-4 i0 i1 → tie.Need-returns i0 i1 → tie.Need-note-requires i0 i1 → tie.Need-migrate-requires i0 i1 → tie.Need-element-copy-out-rise i0 i1 → tie.Need-rise-requires i0 i1 → tie.Need-add-steps i0 i1 → tie.Need-loop-less i0 i1 → tie.Need-loop-again i0 i1 → statement M
+close i0 i1 a0 a1 a2 a3 a4 a5 a6 a7 a8 a9 a10 a11 a12 a13 a14 a15 a16 a17 =
     tie.close
     (tie.spec
     i0
@@ -122,8 +107,4 @@ close i0 i1 a0 a1 a2 a3 a4 a5 a6 a7 a8 a9 a10 a11 a12 a13 a14 a15 a16 a17 a18 a1
     a14
     a15
     a16
-    a17
-    a18
-    a19
-    a20
-    a21)
+    a17)
