@@ -14,7 +14,7 @@ use lib.Seq.{set-getD}
 use borrow.Author.Tests.{eqb-true, eqb-false, eq-eqb, ne-eqb, ltb-true}
 use Rattle.bits.specs.Bit.{bit, lowest}
 use Rattle.cpupri.specs.Found.{lowestLevel, allowedAt, Marked}
-use Rattle.cpupri.proofs.Search.{marked-levels}
+use Rattle.cpupri.proofs.Search.{marked-by}
 use Rattle.cpupri.specs.Record.{masksOf}
 use Rattle.rules.specs.Lists.{In, delete}
 use Rattle.rules.specs.Machine.{Machine, taskOf, prioOf, row, isOnline, idleLevel, level, levels, levelOf, rowLevel, allowed, dequeue, runnable, taskPlaces, highestPriority}
@@ -340,9 +340,7 @@ module _ {m : Machine} {n : ℕ} {ps cs ms ks flat masks words ls : List ℕ} (k
 
   -- the words say which levels have a CPU
   pub words-mark : Marked masks words
-  words-mark =
-      subst (λ (x : List ℕ). Marked x words) (sym (k .masks))
-      (subst (λ (x : List ℕ). Marked (masksOf (levels m)) x) (sym (k .words)) (marked-levels (levels m)))
+  words-mark = marked-by (levels m) (k .masks) (k .words)
 
   -- a column is as long as there are task places
   pub prio-size : length ps ≡ taskPlaces

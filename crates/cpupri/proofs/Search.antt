@@ -34,7 +34,7 @@ mask-count levels l = active-is (countAt levels l) ∙ ap not (go (eqb (maskAt l
     go true e = eq-eqb (countAt levels l) 0 (none-packed (λ (x : ℕ). eqb x l) levels (eqb-true (maskAt levels l) 0 e))
     go false e = ne-eqb (countAt levels l) 0 (λ z. eqb-false (maskAt levels l) 0 e (packed-none (λ (x : ℕ). eqb x l) levels z))
 
-pub marked-levels : (levels : List ℕ) → Marked (masksOf levels) (wordsOf (countsOf levels))
+marked-levels : (levels : List ℕ) → Marked (masksOf levels) (wordsOf (countsOf levels))
 unfolding occupied
 marked-levels levels =
     record {
@@ -45,10 +45,13 @@ marked-levels levels =
           ∙ ap (λ (m : ℕ). not (eqb m 0)) (sym (mask-at levels l h));
     }
 
+-- of tables that hold these levels' masks and words
+pub marked-by : {masks words : List ℕ} (levels : List ℕ) → masks ≡ masksOf levels → words ≡ wordsOf (countsOf levels) → Marked masks words
+marked-by {words = words} levels em ew =
+    subst (λ (ms : List ℕ). Marked ms words) (sym em) (subst (λ (ws : List ℕ). Marked (masksOf levels) ws) (sym ew) (marked-levels levels))
+
 pub marked-whole : (r : Record) → Whole r → Marked (r .masks) (r .words)
-marked-whole r w =
-    subst (λ (ms : List ℕ). Marked ms (r .words)) (sym (masks-are r w))
-    (subst (λ (ws : List ℕ). Marked (masksOf (r .levels)) ws) (sym (words-are r w)) (marked-levels (r .levels)))
+marked-whole r w = marked-by (r .levels) (masks-are r w) (words-are r w)
 
 -- ---- one word
 

@@ -6,10 +6,9 @@ use mathlib.Core.List.{List}
 use Prim.Native.Nat.{ℕ, _-_, _^_, _≤_, _<_}
 use native.Mathlib.Omega.{arith}
 use Rattle.cpupri.specs.Level.{levelCount}
-use Rattle.cpupri.specs.Found.{lowestLevel, Marked}
-use Rattle.cpupri.specs.Record.{masksOf}
+use Rattle.cpupri.specs.Found.{lowestLevel}
 use Rattle.cpupri.proofs.Found.{lowest-most}
-use Rattle.cpupri.proofs.Search.{marked-levels}
+use Rattle.cpupri.proofs.Search.{marked-by}
 use Rattle.rules.specs.Machine.{Machine, level, levels}
 use Rattle.laws.proofs.Finder.{lowest-of-all}
 use Rattle.mover.specs.Foremost.{OnlyAbove}
@@ -20,11 +19,6 @@ use Rattle.choosing.proofs.sharpen.Statement.{statement}
 use Rattle.choosing.proofs.sharpen.Tie as tie
 use Rattle.choosing.proofs.sharpen.Proof.Paths as at
 mod Paths
-
--- the words say which levels have a CPU
-mark : {m : Machine} {n : ℕ} {ps ks flat lm lw : List ℕ} → Watching m n ps ks flat lm lw → Marked lm lw
-mark {m} {lw = lw} k =
-    subst (λ (x : List ℕ). Marked x lw) (sym (k .masks)) (subst (λ (x : List ℕ). Marked (masksOf (levels m)) x) (sym (k .words)) (marked-levels (levels m)))
 
 -- no CPU is below the level that was found
 least : {m : Machine} {n : ℕ} {ps ks flat lm lw : List ℕ} → Watching m n ps ks flat lm lw → (l : ℕ) → l ≡ lowestLevel lm levelCount (2 ^ 64 - 1)
@@ -39,7 +33,7 @@ enum-told : tie.Need-enum-told
 enum-told c = search needs
 
 lowest-level-requires : tie.Need-lowest-level-requires
-lowest-level-requires c κs = let p = at.lowest-level-requires c .pre in (omega arith, mark (p .1))
+lowest-level-requires c κs = let p = at.lowest-level-requires c .pre in (omega arith, marked-by (levels (p .0)) (p .1 .masks) (p .1 .words))
 
 cast-lowest : tie.Need-cast-lowest
 cast-lowest c =
