@@ -137,17 +137,17 @@ module _ {m : Machine} {ss ps qs cs ls ks flat ns fs : List ℕ} {r : Record} {p
       go true = h (p .target) (wrote p m)
       go false = refl
 
-  cpus-kept : carried p m .n ≡ m .n
+  pub cpus-kept : carried p m .n ≡ m .n
   cpus-kept = entered-keeps (λ d. d .n) (λ c d. refl) ∙ left-keeps (λ d. d .n) (λ c d. refl)
 
-  flags-kept : carried p m .flags ≡ m .flags
+  pub flags-kept : carried p m .flags ≡ m .flags
   flags-kept = entered-keeps (λ d. d .flags) (λ c d. refl) ∙ left-keeps (λ d. d .flags) (λ c d. refl)
 
-  online-kept : carried p m .online ≡ m .online
+  pub online-kept : carried p m .online ≡ m .online
   online-kept = entered-keeps (λ d. d .online) (λ c d. refl) ∙ left-keeps (λ d. d .online) (λ c d. refl)
 
   -- a column that only the writing changes
-  column : (f : Machine → List ℕ) (v : ℕ) → ((d : Machine) → f (write t (p .becomes) d) ≡ set (f d) t v)
+  pub column : (f : Machine → List ℕ) (v : ℕ) → ((d : Machine) → f (write t (p .becomes) d) ≡ set (f d) t v)
       → ((c : ℕ) (d : Machine) → f (enqueueAt (p .front) t c d) ≡ f d) → ((c : ℕ) (d : Machine) → f (dequeue t c d) ≡ f d) → set (f m) t v ≡ f (carried p m)
   column f v fw fe fd = sym (entered-keeps f fe ∙ fw (left p m) ∙ ap (λ (xs : List ℕ). set xs t v) (left-keeps f fd))
 

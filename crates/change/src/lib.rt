@@ -5,7 +5,8 @@ ghost use Prim.Native.Nat.{ℕ, _≤_};
 ghost use Rattle.cpupri.specs.Level.{cpuPlaces};
 ghost use Rattle.rules.specs.Machine.{Machine};
 ghost use Rattle.rules.specs.Events.{event, set-priority, set-affinity};
-ghost use Rattle.plans.specs.Decided.{Named, DecidedAs};
+ghost use Rattle.rules.specs.Plan.{withPrio, withMask};
+ghost use Rattle.plans.specs.Decided.{Named, DecidedAs, Shaped, Reorders, Shifts, asTask};
 use cpupri::find::mask_fits;
 use plans::checks::is_priority;
 use plans::plan::Decision;
@@ -18,7 +19,8 @@ use runqueue::row::PLACES;
 // Kind 5. Asleep: the number only. Runnable and unchanged: nothing. Runnable and changed: the task
 // leaves its row and stands in it again: raised behind its equals, lowered in front of them.
 pub fn set_priority(named: Task, who: u32, b: u32) -> Decision
-    ensures { λ r. ⌜ ((m : Machine) (kind a k : ℕ) → Named m who named → DecidedAs set-priority m (event kind who a b k) r) ⌝ }
+    ensures { λ r. ⌜ ((m : Machine) (kind a k : ℕ) → Named m who named → DecidedAs set-priority m (event kind who a b k) r) ⌝
+        ∗ ⌜ Shaped (Reorders who (named .cpu) (withPrio b (asTask named))) r ⌝ }
 {
     let in_range = is_priority(b);
     if PLACES <= who as usize {
@@ -55,7 +57,8 @@ pub fn set_affinity(n: usize, online: u64, named: Task, who: u32, k: u64) -> Dec
     requires { ⌜ n ≤ cpuPlaces ⌝ }
     requires { ⌜ ((m : Machine) × Named m who named) ⌝ }
     ensures { λ r. ⌜ ((m : Machine) (kind a b : ℕ) → n ≡ m .n → online ≡ m .online → Named m who named
-        → DecidedAs set-affinity m (event kind who a b k) r) ⌝ }
+        → DecidedAs set-affinity m (event kind who a b k) r) ⌝
+        ∗ ⌜ Shaped (Shifts who (named .cpu) (withMask k (asTask named))) r ⌝ }
 {
     let fits = mask_fits(n, k);
     let up = k & online;

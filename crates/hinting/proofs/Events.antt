@@ -1,4 +1,4 @@
--- After an event's own effect on a settled machine: the hint from what was read before is true.
+-- After an event's own effect on a settled machine: who can move is among the candidates from what was read before.
 -- Assumes nothing.
 use mathlib.Core.Path.{_≡_, refl, sym, ap, _∙_, subst, subst₂}
 use mathlib.Core.Bool.{Bool, true, false, cond, _&&_}
@@ -22,8 +22,8 @@ use Rattle.laws.proofs.Touched.{ran-there, limited-touched, touches-carried, li
 use Rattle.plans.specs.Decided.{asPlan, did}
 use Rattle.plans.specs.declared.plan.Decision.{Decision}
 use Rattle.plans.specs.declared.plan.Decision.the-variants.{Refused, Nothing, Place, Flag, Offline, Online}
-use Rattle.hinting.specs.Hinted.{cpuOption, taskOption, Hinted}
-use Rattle.hinting.specs.Past.{pastOfRow, pastBy, Able, Standing, fallenSince, newSince, hintAfter}
+use Rattle.hinting.specs.Hinted.{cpuOption, taskOption, Among}
+use Rattle.hinting.specs.Past.{pastOfRow, pastBy, Able, Standing, fallenSince, newSince, candidatesSince}
 use Rattle.hinting.proofs.Hints.{some-task, option-task, some-cpu}
 
 -- the CPU of any task is one of the N
@@ -79,36 +79,30 @@ module _ (t : ℕ) (m m′ : Machine) (w : WellFormed m) (w′ : WellFormed m′
 
 -- whatever was decided
 module _ (m : Machine) (w : WellFormed m) (still : next m ≡ none) where
-  settled-hinted : (d : Decision) → Able m d → WellFormed (did d m) → Hinted (did d m) (hintAfter (pastBy true m d) (did d m))
-  settled-hinted (Refused a) k w′ = limited-settled m still
-  settled-hinted Nothing k w′ = limited-settled m still
-  settled-hinted (Place p) k w′ =
+  pub event-among : (d : Decision) → Able m d → WellFormed (did d m) → Among (did d m) (candidatesSince (pastBy m d) (did d m))
+  event-among (Refused a) k w′ = limited-settled m still
+  event-among Nothing k w′ = limited-settled m still
+  event-among (Place p) k w′ =
       hinted-task (p .task) m (carried (asPlan p) m) w w′ (k .task)
       (limited-touched (p .task) m (carried (asPlan p) m) w w′ (touches-carried m (asPlan p) w k) still)
-  settled-hinted (Flag c b) k w′ = limited-flag m c b w still
-  settled-hinted (Offline c) k w′ = go (row m c) refl
+  event-among (Flag c b) k w′ = limited-flag m c b w still
+  event-among (Offline c) k w′ = go (row m c) refl
     where
-      go : (r : List ℕ) → row m c ≡ r → Hinted (did (Offline c) m) (hintAfter (pastOfRow m r) (did (Offline c) m))
+      go : (r : List ℕ) → row m c ≡ r → Among (did (Offline c) m) (candidatesSince (pastOfRow m r) (did (Offline c) m))
       go [] e = limited-left c m w (k .cpu) w′ still e
       go (t ∷ ts) e = hinted-task t m (did (Offline c) m) w w′ (first-place m c t ts w e) (limited-gone c m w (k .cpu) w′ still (k .placed) t ts e)
-  settled-hinted (Online c) k w′ =
+  event-among (Online c) k w′ =
       subst (λ (o : Option ℕ). Limited (withCpu c m) o none) (sym (some-cpu c (omega (arith, k, w .shape .cpus)))) (limited-back c m still k)
 
-pub event-hinted : (s : Bool) (m : Machine) (d : Decision) → WellFormed m → (s ≡ true → next m ≡ none) → Able m d → WellFormed (did d m)
-    → Hinted (did d m) (hintAfter (pastBy s m d) (did d m))
-event-hinted false m d w h k w′ = tt
-event-hinted true m d w h k w′ = settled-hinted m w (h refl) d k w′
-
 -- what was read before can be looked up after
-pub past-stands : (s : Bool) (m m′ : Machine) (d : Decision) → WellFormed m → m′ .n ≡ m .n → Able m d → Standing m′ (pastBy s m d)
-past-stands false m m′ d w e k = tt
-past-stands true m m′ (Refused a) w e k = tt
-past-stands true m m′ Nothing w e k = tt
-past-stands true m m′ (Place p) w e k = (k .task, subst (λ (n : ℕ). taskOf m (p .task) .cpu < n) (sym e) (cpu-small m (p .task) w (k .task)))
-past-stands true m m′ (Flag c b) w e k = tt
-past-stands true m m′ (Offline c) w e k = go (row m c) refl
+pub past-stands : (m m′ : Machine) (d : Decision) → WellFormed m → m′ .n ≡ m .n → Able m d → Standing m′ (pastBy m d)
+past-stands m m′ (Refused a) w e k = tt
+past-stands m m′ Nothing w e k = tt
+past-stands m m′ (Place p) w e k = (k .task, subst (λ (n : ℕ). taskOf m (p .task) .cpu < n) (sym e) (cpu-small m (p .task) w (k .task)))
+past-stands m m′ (Flag c b) w e k = tt
+past-stands m m′ (Offline c) w e k = go (row m c) refl
   where
     go : (r : List ℕ) → row m c ≡ r → Standing m′ (pastOfRow m r)
     go [] q = tt
     go (t ∷ ts) q = let place = first-place m c t ts w q in (place, subst (λ (n : ℕ). taskOf m t .cpu < n) (sym e) (cpu-small m t w place))
-past-stands true m m′ (Online c) w e k = tt
+past-stands m m′ (Online c) w e k = tt

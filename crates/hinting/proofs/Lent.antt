@@ -19,10 +19,10 @@ use Rattle.placement.proofs.Order.{well-formed-order}
 use Rattle.plans.specs.declared.plan.Decision.{Decision}
 use Rattle.plans.specs.declared.plan.Decision.the-variants.{Place, Offline}
 use Rattle.plans.specs.declared.plan.Plan.{Plan}
-use Rattle.hinting.specs.Past.{Reading, pastOf, pastOfRow, pastBy, Able, newSince, hintAfter}
-use Rattle.hinting.specs.declared.hint.Hint.the-variants.{Few}
+use Rattle.hinting.specs.Past.{Reading, pastOf, pastOfRow, pastBy, Able, newSince, candidatesSince}
+use Rattle.hinting.specs.Hinted.{candidates}
 use Rattle.hinting.specs.declared.past.Past.{Past}
-use Rattle.hinting.specs.declared.past.Past.the-variants.{Unknown, Untouched, Task}
+use Rattle.hinting.specs.declared.past.Past.the-variants.{Untouched, Task}
 use Rattle.hinting.proofs.Events.{cpu-small, first-place}
 
 -- a place that holds nothing holds no task
@@ -101,12 +101,8 @@ module _ {m : Machine} {cs flat ls : List ℕ} (k : Reading m cs flat ls) (c : �
 
 -- ---- by what was decided
 
-pub unknown-past : (m : Machine) (d : Decision) (s : Bool) → not s ≡ true → Unknown ≡ pastBy s m d
-unknown-past m d true e = absurd (false≢true e)
-unknown-past m d false e = refl
-
-pub decided-past : (m : Machine) (d f : Decision) (s : Bool) → not s ≡ false → d ≡ f → pastBy true m f ≡ pastBy s m d
-decided-past m d f s e is = ap (λ (g : Decision). pastBy true m g) (sym is) ∙ ap (λ (b : Bool). pastBy b m d) (sym (not-false s e))
+pub decided-past : (m : Machine) (d f : Decision) → d ≡ f → pastBy m f ≡ pastBy m d
+decided-past m d f is = ap (pastBy m) (sym is)
 
 pub able-gone : (m : Machine) (d : Decision) {c : ℕ} → Able m d → d ≡ Offline c → c < m .n
 able-gone m d k is = subst (Able m) is k .cpu
@@ -166,14 +162,14 @@ module _ {m : Machine} {ss cs flat ls : List ℕ} (k : Reading m cs flat ls) (is
       pub new-behind : (ran && eqb from (getD cs t 0)) ≡ false → getD flat (getD cs t 0 * taskPlaces + 1) 0 ≡ newSince t from ran m
       new-behind q = by true true false up (eq-eqb first t e) q
 
--- the hint by what was read
-pub hint-is : {m : Machine} {cs flat ls : List ℕ} (k : Reading m cs flat ls) (t c l : ℕ) (ran : Bool) (past : Past) → past ≡ Task t c l ran → c < m .n
-    → (new : ℕ) → new ≡ newSince t c ran m → (b : Bool) → (ran && ltb (getD ls c 0) l) ≡ b → Few (cond b c cpuPlaces) new ≡ hintAfter past m
-hint-is {m} {cs} {flat} {ls} k t c l ran past is small new en b eb =
-    ap (λ (x : Bool). Few (cond x c cpuPlaces) new) (sym eb)
-    ∙ ap (λ (x : ℕ). Few (cond (ran && ltb x l) c cpuPlaces) new) (level-is k c small)
-    ∙ ap (λ (x : ℕ). Few (cond (ran && ltb (level m c) l) c cpuPlaces) x) en
-    ∙ ap (λ (p : Past). hintAfter p m) (sym is)
+-- who can move by what was read
+pub since-is : {m : Machine} {cs flat ls : List ℕ} (k : Reading m cs flat ls) (t c l : ℕ) (ran : Bool) (past : Past) → past ≡ Task t c l ran → c < m .n
+    → (new : ℕ) → new ≡ newSince t c ran m → (b : Bool) → (ran && ltb (getD ls c 0) l) ≡ b → candidates (cond b c cpuPlaces) new ≡ candidatesSince past m
+since-is {m} {cs} {flat} {ls} k t c l ran past is small new en b eb =
+    ap (λ (x : Bool). candidates (cond x c cpuPlaces) new) (sym eb)
+    ∙ ap (λ (x : ℕ). candidates (cond (ran && ltb x l) c cpuPlaces) new) (level-is k c small)
+    ∙ ap (λ (x : ℕ). candidates (cond (ran && ltb (level m c) l) c cpuPlaces) x) en
+    ∙ ap (λ (p : Past). candidatesSince p m) (sym is)
 
 -- the levels are not read
 pub unlevelled : {m : Machine} {cs flat ls : List ℕ} → Reading m cs flat ls → Reading m cs flat (levels m)

@@ -1,4 +1,4 @@
--- What is read of a task before an event's own effect, and the hint that it gives after it.
+-- What is read of a task before an event's own effect on a settled machine, and who can move after it.
 -- Assumes nothing.
 use mathlib.Core.Path.{_≡_}
 use mathlib.Core.Bool.{Bool, true, false, cond, _&&_}
@@ -10,13 +10,13 @@ use Rattle.rules.specs.Plan.{Doable}
 use Rattle.rules.specs.Tables.{flatOf, nothing}
 use Rattle.rules.specs.WellFormed.{WellFormed}
 use Rattle.laws.specs.Limited.{holds, second, orNothing}
-use Rattle.hinting.specs.declared.hint.Hint.{Hint}
-use Rattle.hinting.specs.declared.hint.Hint.the-variants.{Unknown as Anyone, Few}
+use Rattle.hinting.specs.Hinted.{candidates}
+use Rattle.hinting.specs.declared.hint.Candidates.{Candidates}
 use Rattle.plans.specs.Decided.{asPlan, Goable}
 use Rattle.plans.specs.declared.plan.Decision.{Decision}
 use Rattle.plans.specs.declared.plan.Decision.the-variants.{Refused, Nothing, Place, Flag, Offline, Online}
 use Rattle.hinting.specs.declared.past.Past.{Past}
-use Rattle.hinting.specs.declared.past.Past.the-variants.{Unknown, Untouched, Task, Back}
+use Rattle.hinting.specs.declared.past.Past.the-variants.{Untouched, Task, Back}
 
 -- the lent tables hold the machine m: cs the CPUs, flat the rows, ls the record's levels
 pub record Reading (m : Machine) (cs flat ls : List ℕ) : Type 0 where
@@ -37,14 +37,13 @@ pastOfRow m [] = Untouched
 pastOfRow m (t ∷ ts) = pastOf m t
 
 -- a decision touches the task that it places; where a CPU goes, the task that ran on it counts
-abbrev pub pastBy : Bool → Machine → Decision → Past
-pastBy false m d = Unknown
-pastBy true m (Refused a) = Untouched
-pastBy true m Nothing = Untouched
-pastBy true m (Place p) = pastOf m (p .task)
-pastBy true m (Flag c b) = Untouched
-pastBy true m (Offline c) = pastOfRow m (row m c)
-pastBy true m (Online c) = Back c
+abbrev pub pastBy : Machine → Decision → Past
+pastBy m (Refused a) = Untouched
+pastBy m Nothing = Untouched
+pastBy m (Place p) = pastOf m (p .task)
+pastBy m (Flag c b) = Untouched
+pastBy m (Offline c) = pastOfRow m (row m c)
+pastBy m (Online c) = Back c
 
 -- what a decision places can be placed, and a CPU can go or come
 abbrev pub Able : Machine → Decision → Type 0
@@ -67,15 +66,13 @@ newSince t c ran m =
     let d : ℕ = taskOf m t .cpu in
     cond (eqb (taskOf m t .state) runnable) (cond (holds (running m d) t) (cond (ran && eqb c d) nothing (orNothing (second (row m d)))) t) nothing
 
-abbrev pub hintAfter : Past → Machine → Hint
-hintAfter Unknown m = Anyone
-hintAfter Untouched m = Few cpuPlaces nothing
-hintAfter (Task t c l ran) m = Few (fallenSince c l ran m) (newSince t c ran m)
-hintAfter (Back c) m = Few c nothing
+abbrev pub candidatesSince : Past → Machine → Candidates
+candidatesSince Untouched m = candidates cpuPlaces nothing
+candidatesSince (Task t c l ran) m = candidates (fallenSince c l ran m) (newSince t c ran m)
+candidatesSince (Back c) m = candidates c nothing
 
 -- what was read is of a task, and of one of the machine's CPUs
 abbrev pub Standing : Machine → Past → Type 0
-Standing m Unknown = Unit {0}
 Standing m Untouched = Unit {0}
 Standing m (Task t c l ran) = (t < taskPlaces) × (c < m .n)
 Standing m (Back c) = Unit {0}

@@ -1,10 +1,10 @@
-// What is read of the task that an event is about before the event's own effect, and the hint that it gives after it.
+// What is read of the task that an event is about before the event's own effect, on a settled machine, and who can move after it.
 ghost use mathlib.Core.Path.{_≡_};
 ghost use Prim.Native.Nat.{_<_};
 ghost use Rattle.bits.specs.Moments.{old};
 ghost use Rattle.rules.specs.Machine.{Machine, row, taskPlaces, levels as levelsOf};
-ghost use Rattle.hinting.specs.Past.{Reading, Standing, Able, pastOf, pastOfRow, pastBy, newSince, hintAfter};
-use super::hint::Hint;
+ghost use Rattle.hinting.specs.Past.{Reading, Standing, Able, pastOf, pastOfRow, pastBy, newSince, candidatesSince};
+use super::hint::Candidates;
 use cpupri::record::CPUS;
 use plans::plan::Decision;
 use rules::task::RUNNABLE;
@@ -13,36 +13,25 @@ use runqueue::row::PLACES;
 
 // What was so before the effect.
 pub enum Past {
-    // the machine was perhaps not settled
-    Unknown,
-    // it was, and no task is touched
+    // no task is touched
     Untouched,
-    // it was; the task that is touched, its CPU, that CPU's level, and whether the task ran there
+    // the task that is touched, its CPU, that CPU's level, and whether the task ran there
     Task {
         task: u16,
         cpu: usize,
         level: u8,
         ran: bool,
     },
-    // it was; this CPU comes back
+    // this CPU comes back
     Back {
         cpu: usize,
     },
 }
 
-pub fn remember(
-    settled: bool,
-    decision: Decision,
-    cpu: &[u8],
-    rows: &[u16],
-    levels: &[u8; CPUS],
-) -> Past
+pub fn remember(decision: Decision, cpu: &[u8], rows: &[u16], levels: &[u8; CPUS]) -> Past
     requires { ⌜ ((m : Machine) × (Reading m (now cpu) (now rows) (now levels) × Able m decision)) ⌝ }
-    ensures { λ r. ⌜ ((m : Machine) → Reading m (old cpu) (old rows) (old levels) → r ≡ pastBy settled m decision) ⌝ }
+    ensures { λ r. ⌜ ((m : Machine) → Reading m (old cpu) (old rows) (old levels) → r ≡ pastBy m decision) ⌝ }
 {
-    if !settled {
-        return Past::Unknown;
-    }
     match decision {
         Decision::Place(plan) => standing(plan.task, cpu, rows, levels),
         Decision::Flag { cpu: _, work: _ } => Past::Untouched,
@@ -66,7 +55,7 @@ fn runner(at: usize, cpu: &[u8], rows: &[u16], levels: &[u8; CPUS]) -> Past
 }
 
 // Where a task stands.
-fn standing(task: u16, cpu: &[u8], rows: &[u16], levels: &[u8; CPUS]) -> Past
+pub fn standing(task: u16, cpu: &[u8], rows: &[u16], levels: &[u8; CPUS]) -> Past
     requires { ⌜ task < taskPlaces ⌝ }
     requires { ⌜ ((m : Machine) × Reading m (now cpu) (now rows) (now levels)) ⌝ }
     ensures { λ r. ⌜ ((m : Machine) → Reading m (old cpu) (old rows) (old levels) → r ≡ pastOf m task) ⌝ }
@@ -80,19 +69,18 @@ fn standing(task: u16, cpu: &[u8], rows: &[u16], levels: &[u8; CPUS]) -> Past
     }
 }
 
-// The hint after the effect.
-pub fn hint(past: Past, state: &[u8], cpu: &[u8], rows: &[u16], levels: &[u8; CPUS]) -> Hint
+// Who can move after the effect.
+pub fn since(past: Past, state: &[u8], cpu: &[u8], rows: &[u16], levels: &[u8; CPUS]) -> Candidates
     requires { ⌜ ((m : Machine) × (Reading m (now cpu) (now rows) (now levels) × (now state ≡ m .state) × Standing m past)) ⌝ }
     ensures { λ r. ⌜ ((m : Machine) → Reading m (old cpu) (old rows) (old levels) → old state ≡ m .state → Standing m past
-        → r ≡ hintAfter past m) ⌝ }
+        → r ≡ candidatesSince past m) ⌝ }
 {
     match past {
-        Past::Unknown => Hint::Unknown,
-        Past::Untouched => Hint::Few {
+        Past::Untouched => Candidates {
             fallen: CPUS,
             new: NOTHING,
         },
-        Past::Back { cpu: at } => Hint::Few {
+        Past::Back { cpu: at } => Candidates {
             fallen: at,
             new: NOTHING,
         },
@@ -104,15 +92,15 @@ pub fn hint(past: Past, state: &[u8], cpu: &[u8], rows: &[u16], levels: &[u8; CP
         } => {
             let new = new_task(task, at, ran, state, cpu, rows);
             if ran & (levels[at] < level) {
-                return Hint::Few { fallen: at, new };
+                return Candidates { fallen: at, new };
             }
-            Hint::Few { fallen: CPUS, new }
+            Candidates { fallen: CPUS, new }
         }
     }
 }
 
 // The task if it waits; if it runs, and did not run there before, the task behind it, which it displaced; else none.
-fn new_task(task: u16, at: usize, ran: bool, state: &[u8], cpu: &[u8], rows: &[u16]) -> u16
+pub fn new_task(task: u16, at: usize, ran: bool, state: &[u8], cpu: &[u8], rows: &[u16]) -> u16
     requires { ⌜ task < taskPlaces ⌝ }
     requires { ⌜ ((m : Machine) × (Reading m (now cpu) (now rows) (levelsOf m) × (now state ≡ m .state))) ⌝ }
     ensures { λ r. ⌜ ((m : Machine) → Reading m (old cpu) (old rows) (levelsOf m) → old state ≡ m .state → r ≡ newSince task at ran m) ⌝ }

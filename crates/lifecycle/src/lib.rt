@@ -5,9 +5,10 @@ ghost use mathlib.Core.Bool.{cond};
 ghost use Prim.Native.Nat.{ℕ, _≤_, _<_};
 ghost use Rattle.bits.specs.Bit.{bit, lowest as lowestBit};
 ghost use Rattle.cpupri.specs.Level.{cpuPlaces};
-ghost use Rattle.rules.specs.Machine.{Machine};
+ghost use Rattle.rules.specs.Machine.{Machine, asleep, runnable};
+ghost use Rattle.rules.specs.Plan.{enter, leave, withState};
 ghost use Rattle.rules.specs.Events.{event, add as addKind, remove as removeKind, wake as wakeKind, sleep as sleepKind};
-ghost use Rattle.plans.specs.Decided.{Named, DecidedAs};
+ghost use Rattle.plans.specs.Decided.{Named, DecidedAs, Shaped, asTask};
 use cpupri::find::mask_fits;
 use plans::checks::is_policy;
 use plans::checks::is_priority;
@@ -80,7 +81,8 @@ pub fn remove(named: Task, who: u32) -> Decision
 pub fn wake(online: u64, named: Task, who: u32) -> Decision
     requires { ⌜ ((m : Machine) × Named m who named) ⌝ }
     ensures { λ r. ⌜ ((m : Machine) (kind a b k : ℕ) → online ≡ m .online → Named m who named
-        → DecidedAs wakeKind m (event kind who a b k) r) ⌝ }
+        → DecidedAs wakeKind m (event kind who a b k) r) ⌝
+        ∗ ⌜ Shaped (λ p. ((d : ℕ) × (p ≡ enter who (withState runnable (asTask named)) d))) r ⌝ }
 {
     if PLACES <= who as usize {
         return Decision::Refused(answer::BAD_NUMBER);
@@ -106,7 +108,8 @@ pub fn wake(online: u64, named: Task, who: u32) -> Decision
 
 // Kind 4: a runnable task leaves its row. Its CPU and its slice are kept.
 pub fn sleep(named: Task, who: u32) -> Decision
-    ensures { λ r. ⌜ ((m : Machine) (kind a b k : ℕ) → Named m who named → DecidedAs sleepKind m (event kind who a b k) r) ⌝ }
+    ensures { λ r. ⌜ ((m : Machine) (kind a b k : ℕ) → Named m who named → DecidedAs sleepKind m (event kind who a b k) r) ⌝
+        ∗ ⌜ Shaped (λ p. p ≡ leave who (named .cpu) (withState asleep (asTask named))) r ⌝ }
 {
     if PLACES <= who as usize {
         return Decision::Refused(answer::BAD_NUMBER);

@@ -1,10 +1,12 @@
 // What happens on a CPU: kinds 7 to 11. Each has its checks in the paper's order and then its effect. `who` is the CPU; a tick and a
 // yield have in `at` the task that runs there, and in `runner` what stands in its columns.
 ghost use mathlib.Core.Path.{_≡_};
+ghost use mathlib.Core.Bool.{false};
 ghost use Prim.Native.Nat.{ℕ, _≤_};
 ghost use Rattle.rules.specs.Machine.{Machine, cpuPlaces};
 ghost use Rattle.rules.specs.Events.{event, tick as tickKind, yield, set-ordinary, take-offline, bring-online};
-ghost use Rattle.plans.specs.Decided.{Runs, strands, DecidedAs};
+ghost use Rattle.rules.specs.Plan.{reorder, withSlice};
+ghost use Rattle.plans.specs.Decided.{Runs, strands, DecidedAs, Shaped, Reorders, asTask};
 use plans::plan::Decision;
 use plans::plan::Plan;
 use plans::plan::Task;
@@ -20,7 +22,8 @@ const WORK: u32 = 1;
 pub fn tick(n: usize, online: u64, full: u16, at: usize, runner: Task, who: u32) -> Decision
     requires { ⌜ n ≤ cpuPlaces ⌝ }
     ensures { λ r. ⌜ ((m : Machine) (kind a b k : ℕ) → n ≡ m .n → online ≡ m .online → full ≡ m .full → Runs m who at runner
-        → DecidedAs tickKind m (event kind who a b k) r) ⌝ }
+        → DecidedAs tickKind m (event kind who a b k) r) ⌝
+        ∗ ⌜ Shaped (λ p. ((v : ℕ) × Reorders at who (withSlice v (asTask runner)) p)) r ⌝ }
 {
     let cpu = who as usize;
     if n <= cpu {
@@ -62,7 +65,8 @@ pub fn tick(n: usize, online: u64, full: u16, at: usize, runner: Task, who: u32)
 pub fn yield_cpu(n: usize, online: u64, at: usize, runner: Task, who: u32) -> Decision
     requires { ⌜ n ≤ cpuPlaces ⌝ }
     ensures { λ r. ⌜ ((m : Machine) (kind a b k : ℕ) → n ≡ m .n → online ≡ m .online → Runs m who at runner
-        → DecidedAs yield m (event kind who a b k) r) ⌝ }
+        → DecidedAs yield m (event kind who a b k) r) ⌝
+        ∗ ⌜ Shaped (λ p. p ≡ reorder false at who (asTask runner)) r ⌝ }
 {
     let cpu = who as usize;
     if n <= cpu {

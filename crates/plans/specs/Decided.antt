@@ -2,7 +2,7 @@
 -- Assumes nothing.
 use mathlib.Core.Path.{_≡_}
 use mathlib.Core.Bool.{Bool, false}
-use mathlib.Core.Logic.{_≢_}
+use mathlib.Core.Logic.{_≢_, _⊎_}
 use mathlib.Core.List.{List, [], _∷_}
 use Prim.Native.Nat.{ℕ, _≤_, _<_}
 use Rattle.rules.specs.Lists.{In, any}
@@ -10,7 +10,7 @@ use Rattle.rules.specs.Machine.{Machine, Task, taskOf, row, stranded, withFlag,
 use Rattle.rules.specs.Tables.{nothing}
 use Rattle.rules.specs.WellFormed.{WellFormed}
 use Rattle.rules.specs.Events.{Event, Kind, takenOffline, effectOf}
-use Rattle.rules.specs.Plan.{Plan, carried, Carries}
+use Rattle.rules.specs.Plan.{Plan, carried, rewrite, shift, reorder, Carries}
 use Rattle.rules.specs.Refusals.{firstFailing, checks}
 use Rattle.plans.specs.declared.plan.Task.{Task as Columns}
 use Rattle.plans.specs.declared.plan.Plan.{Plan as Written}
@@ -71,6 +71,23 @@ Decided r done m (Place p) = (0 ≡ r) × Carries done m (asPlan p)
 Decided r done m (Flag c b) = (0 ≡ r) × (done ≡ withFlag c b m) × (c < m .n) × (b ≤ 1)
 Decided r done m (Offline c) = (0 ≡ r) × (done ≡ takenOffline c m) × Goable m c
 Decided r done m (Online c) = (0 ≡ r) × (done ≡ withCpu c m) × (c < m .n)
+
+-- refused, nothing, or a plan of this shape
+abbrev pub Shaped : (Plan → Type 0) → Decision → Type 0
+Shaped s (Refused a) = Unit {0}
+Shaped s Nothing = Unit {0}
+Shaped s (Place p) = s (asPlan p)
+Shaped s (Flag c b) = ⊥
+Shaped s (Offline c) = ⊥
+Shaped s (Online c) = ⊥
+
+-- task t becomes τ, and stays where it is or takes another place in row c
+abbrev pub Reorders : ℕ → ℕ → Task → Plan → Type 0
+Reorders t c τ p = (p ≡ rewrite t τ) ⊎ ((f : Bool) × (p ≡ reorder f t c τ))
+
+-- and stays where it is, or goes from row c to another
+abbrev pub Shifts : ℕ → ℕ → Task → Plan → Type 0
+Shifts t c τ p = (p ≡ rewrite t τ) ⊎ ((d : ℕ) × (p ≡ shift t c τ d))
 
 abbrev pub DecidedAs : Kind → Machine → Event → Decision → Type 0
 DecidedAs k m e d = Decided (firstFailing (checks m e k)) (effectOf k e m) m d

@@ -4,6 +4,7 @@ use borrow.Author.Needs.{needs}
 use mathlib.Core.Path.{_≡_, ap, _∙_}
 use mathlib.Core.Bool.{Bool, false, not, _&&_}
 use Prim.Native.Nat.{ℕ, _≤_}
+use mathlib.Core.Logic.{inl, inr}
 use native.Mathlib.Nat.{suc-ne-zero}
 use native.Mathlib.Omega.{arith}
 use lib.Dec.{leb, ltb}
@@ -26,22 +27,29 @@ is-priority-requires : tie.Need-is-priority-requires
 is-priority-requires c κs = search needs
 
 returns : tie.Need-returns
-returns c = λ m kind a j l. let k = at.returns c in (fails-here _ _ _ (le-leb taskPlaces (k .args .who) (k .if1 .taken)), suc-ne-zero 3)
+returns c = (
+  λ m kind a j l. let k = at.returns c in (fails-here _ _ _ (le-leb taskPlaces (k .args .who) (k .if1 .taken)), suc-ne-zero 3),
+  tt,
+)
 
 returns-2 : tie.Need-returns-2
-returns-2 c =
-    λ m kind a j l.
-    let k = at.returns-2 c in
-    (passes-here _ _ _ 5 (lt-leb taskPlaces (k .args .who) (k .if1 .left)) (fails-here _ _ _ (is-in l free (k .if2 .taken))), suc-ne-zero 4)
+returns-2 c = (
+  λ m kind a j l.
+      let k = at.returns-2 c in
+      (passes-here _ _ _ 5 (lt-leb taskPlaces (k .args .who) (k .if1 .left)) (fails-here _ _ _ (is-in l free (k .if2 .taken))), suc-ne-zero 4),
+  tt,
+)
 
 returns-3 : tie.Need-returns-3
-returns-3 c =
-    λ m kind a j l.
-    let k = at.returns-3 c in (
-      passes-here _ _ _ 7 (lt-leb taskPlaces (k .args .who) (k .if1 .left))
-          (passes-here _ _ _ 7 (not-in l free (k .if2 .left)) (fails-here _ _ _ (tested (k .is-priority .ensures) (k .if3 .taken)))),
-      suc-ne-zero 6,
-    )
+returns-3 c = (
+  λ m kind a j l.
+      let k = at.returns-3 c in (
+        passes-here _ _ _ 7 (lt-leb taskPlaces (k .args .who) (k .if1 .left))
+            (passes-here _ _ _ 7 (not-in l free (k .if2 .left)) (fails-here _ _ _ (tested (k .is-priority .ensures) (k .if3 .taken)))),
+        suc-ne-zero 6,
+      ),
+  tt,
+)
 
 cast : at.Need-cast
 cast c = let k = at.cast c in omega (arith, low (k .args .b) (k .is-priority .ensures) (k .if3 .left))
@@ -53,24 +61,28 @@ rewrite-requires : tie.Need-rewrite-requires
 rewrite-requires c κs = search needs
 
 returns-4 : tie.Need-returns-4
-returns-4 c =
-    λ m kind a j l.
-    let k = at.returns-4 c in
-    let t = k .args .who in
-    let p = k .args .b in (
-      passes-here _ _ _ 0 (lt-leb taskPlaces t (k .if1 .left))
-          (passes-here _ _ _ 0 (not-in l free (k .if2 .left)) (passes-here _ _ _ 0 (tested (k .is-priority .ensures) (k .if3 .left)) none-left)),
-      replaced (k .rewrite .ensures ∙ ap (rewrite t) (ap (withPrio p) (l .columns))) (priority-idle l (k .if1 .left) p (k .if4 .taken)),
-    )
+returns-4 c = (
+  λ m kind a j l.
+      let k = at.returns-4 c in
+      let t = k .args .who in
+      let p = k .args .b in (
+        passes-here _ _ _ 0 (lt-leb taskPlaces t (k .if1 .left))
+            (passes-here _ _ _ 0 (not-in l free (k .if2 .left)) (passes-here _ _ _ 0 (tested (k .is-priority .ensures) (k .if3 .left)) none-left)),
+        replaced (k .rewrite .ensures ∙ ap (rewrite t) (ap (withPrio p) (l .columns))) (priority-idle l (k .if1 .left) p (k .if4 .taken)),
+      ),
+  inl (at.returns-4 c .rewrite .ensures),
+)
 
 returns-5 : tie.Need-returns-5
-returns-5 c =
-    λ m kind a j l.
-    let k = at.returns-5 c in (
-      passes-here _ _ _ 0 (lt-leb taskPlaces (k .args .who) (k .if1 .left))
-          (passes-here _ _ _ 0 (not-in l free (k .if2 .left)) (passes-here _ _ _ 0 (tested (k .is-priority .ensures) (k .if3 .left)) none-left)),
-      priority-same l (k .if1 .left) (k .args .b) (k .if4 .left) (k .if5 .taken),
-    )
+returns-5 c = (
+  λ m kind a j l.
+      let k = at.returns-5 c in (
+        passes-here _ _ _ 0 (lt-leb taskPlaces (k .args .who) (k .if1 .left))
+            (passes-here _ _ _ 0 (not-in l free (k .if2 .left)) (passes-here _ _ _ 0 (tested (k .is-priority .ensures) (k .if3 .left)) none-left)),
+        priority-same l (k .if1 .left) (k .args .b) (k .if4 .left) (k .if5 .taken),
+      ),
+  tt,
+)
 
 cast-home : tie.Need-cast-home
 cast-home c = search needs
@@ -82,16 +94,18 @@ reorder-requires : tie.Need-reorder-requires
 reorder-requires c κs = search needs
 
 returns-6 : tie.Need-returns-6
-returns-6 c =
-    λ m kind a j l.
-    let k = at.returns-6 c in
-    let t = k .args .who in
-    let p = k .args .b in (
-      passes-here _ _ _ 0 (lt-leb taskPlaces t (k .if1 .left))
-          (passes-here _ _ _ 0 (not-in l free (k .if2 .left)) (passes-here _ _ _ 0 (tested (k .is-priority .ensures) (k .if3 .left)) none-left)),
-      replaced (k .reorder .ensures ∙ ap (λ (σ : Task). reorder (ltb p (σ .prio)) t (σ .cpu) (withPrio p σ)) (l .columns))
-          (priority-moved l (k .if1 .left) p (k .if4 .left) (k .if5 .left) (low p (k .is-priority .ensures) (k .if3 .left))),
-    )
+returns-6 c = (
+  λ m kind a j l.
+      let k = at.returns-6 c in
+      let t = k .args .who in
+      let p = k .args .b in (
+        passes-here _ _ _ 0 (lt-leb taskPlaces t (k .if1 .left))
+            (passes-here _ _ _ 0 (not-in l free (k .if2 .left)) (passes-here _ _ _ 0 (tested (k .is-priority .ensures) (k .if3 .left)) none-left)),
+        replaced (k .reorder .ensures ∙ ap (λ (σ : Task). reorder (ltb p (σ .prio)) t (σ .cpu) (withPrio p σ)) (l .columns))
+            (priority-moved l (k .if1 .left) p (k .if4 .left) (k .if5 .left) (low p (k .is-priority .ensures) (k .if3 .left))),
+      ),
+  inr (_, at.returns-6 c .reorder .ensures),
+)
 
 pub set-priority-spec : {M : Type 1} → statement M
 set-priority-spec =

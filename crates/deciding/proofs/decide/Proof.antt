@@ -78,7 +78,7 @@ returns-3 c =
     let k = at.returns-3 c in
     let x = k .args in
     by-kind m (asked (k .start)) wake _ (ap kindOf (k .match .keys3))
-    (k .wake .ensures m (x .kind) (x .a) (x .b) (x .k) (l .online) (named l (k .task-at .ensures) 3 (k .match .keys3) refl))
+    (k .wake .ensures .0 m (x .kind) (x .a) (x .b) (x .k) (l .online) (named l (k .task-at .ensures) 3 (k .match .keys3) refl))
 
 returns-4 : tie.Need-returns-4
 returns-4 c =
@@ -86,7 +86,7 @@ returns-4 c =
     let k = at.returns-4 c in
     let x = k .args in
     by-kind m (asked (k .start)) sleep _ (ap kindOf (k .match .keys4))
-    (k .sleep .ensures m (x .kind) (x .a) (x .b) (x .k) (named l (k .task-at .ensures) 4 (k .match .keys4) refl))
+    (k .sleep .ensures .0 m (x .kind) (x .a) (x .b) (x .k) (named l (k .task-at .ensures) 4 (k .match .keys4) refl))
 
 returns-5 : tie.Need-returns-5
 returns-5 c =
@@ -94,7 +94,7 @@ returns-5 c =
     let k = at.returns-5 c in
     let x = k .args in
     by-kind m (asked (k .start)) set-priority _ (ap kindOf (k .match .keys5))
-    (k .set-priority .ensures m (x .kind) (x .a) (x .k) (named l (k .task-at .ensures) 5 (k .match .keys5) refl))
+    (k .set-priority .ensures .0 m (x .kind) (x .a) (x .k) (named l (k .task-at .ensures) 5 (k .match .keys5) refl))
 
 returns-6 : tie.Need-returns-6
 returns-6 c =
@@ -102,7 +102,7 @@ returns-6 c =
     let k = at.returns-6 c in
     let x = k .args in
     by-kind m (asked (k .start)) set-affinity _ (ap kindOf (k .match .keys6))
-    (k .set-affinity .ensures m (x .kind) (x .a) (x .b) (l .cpus) (l .online) (named l (k .task-at .ensures) 6 (k .match .keys6) refl))
+    (k .set-affinity .ensures .0 m (x .kind) (x .a) (x .b) (l .cpus) (l .online) (named l (k .task-at .ensures) 6 (k .match .keys6) refl))
 
 returns-7 : tie.Need-returns-7
 returns-7 c =
@@ -110,7 +110,7 @@ returns-7 c =
     let k = at.returns-7 c in
     let x = k .args in
     by-kind m (asked (k .start)) tick _ (ap kindOf (k .match .keys7))
-    (k .tick .ensures m (x .kind) (x .a) (x .b) (x .k) (l .cpus) (l .online) (l .ticks) (runner l (k .task-at .ensures) 7 (k .match .keys7) refl))
+    (k .tick .ensures .0 m (x .kind) (x .a) (x .b) (x .k) (l .cpus) (l .online) (l .ticks) (runner l (k .task-at .ensures) 7 (k .match .keys7) refl))
 
 returns-8 : tie.Need-returns-8
 returns-8 c =
@@ -118,7 +118,7 @@ returns-8 c =
     let k = at.returns-8 c in
     let x = k .args in
     by-kind m (asked (k .start)) yield _ (ap kindOf (k .match .keys8))
-    (k .yield-cpu .ensures m (x .kind) (x .a) (x .b) (x .k) (l .cpus) (l .online) (runner l (k .task-at .ensures) 8 (k .match .keys8) refl))
+    (k .yield-cpu .ensures .0 m (x .kind) (x .a) (x .b) (x .k) (l .cpus) (l .online) (runner l (k .task-at .ensures) 8 (k .match .keys8) refl))
 
 returns-9 : tie.Need-returns-9
 returns-9 c =

@@ -1,7 +1,7 @@
--- The places of `hinting::past::hint` by name, and its needs that are plumbing. Written by `scripts/paths hinting`: not to be edited.
+-- The places of `hinting::past::since` by name, and its needs that are plumbing. Written by `paths hinting`: not to be edited.
 -- Assumes nothing.
-use Rattle.hinting.proofs.past.hint.Statement.{statement}
-use Rattle.hinting.proofs.past.hint.Tie as tie
+use Rattle.hinting.proofs.past.since.Statement.{statement}
+use Rattle.hinting.proofs.past.since.Tie as tie
 
 abbrev typeOf : {A : Type 0} → A → Type 0
 typeOf {A} x = A
@@ -12,17 +12,14 @@ start c = record { args = c .args; pre = c .pre }
 abbrev pub after-enum-told : (c : tie.After-enum-told) → record { enum-told : typeOf (c .enum-told) }
 after-enum-told c = record { enum-told = c .enum-told }
 
-abbrev pub after-enum-told2 : (c : tie.After-enum-told2) → record { enum-told2 : typeOf (c .enum-told2) }
-after-enum-told2 c = record { enum-told2 = c .enum-told2 }
-
 abbrev pub after-past : (c : tie.After-past) → record { past : typeOf (c .past) }
 after-past c = record { past = c .past }
 
-abbrev pub at-match-keys4 : (c : tie.At-match-keys4) → let b = start (c .before .before .before .before) in record { args : typeOf (b .args); pre : typeOf (b .pre) }
-at-match-keys4 c = let b = start (c .before .before .before .before) in record { args = b .args; pre = b .pre }
+abbrev pub at-match-keys3 : (c : tie.At-match-keys3) → let b = start (c .before .before .before .before) in record { args : typeOf (b .args); pre : typeOf (b .pre) }
+at-match-keys3 c = let b = start (c .before .before .before .before) in record { args = b .args; pre = b .pre }
 
-abbrev pub after-past2 : (c : tie.After-past2) → let b = at-match-keys4 (c .before) in record { args : typeOf (b .args); pre : typeOf (b .pre); past2 : typeOf (c .past2) }
-after-past2 c = let b = at-match-keys4 (c .before) in record { args = b .args; pre = b .pre; past2 = c .past2 }
+abbrev pub after-past2 : (c : tie.After-past2) → let b = at-match-keys3 (c .before) in record { args : typeOf (b .args); pre : typeOf (b .pre); past2 : typeOf (c .past2) }
+after-past2 c = let b = at-match-keys3 (c .before) in record { args = b .args; pre = b .pre; past2 = c .past2 }
 
 abbrev pub after-new-task : (c : tie.After-new-task) → let b = after-past2 (c .before .before) in record { args : typeOf (b .args); pre : typeOf (b .pre); past2 : typeOf (b .past2); new-task : typeOf (c .new-task) }
 after-new-task c = let b = after-past2 (c .before .before) in record { args = b .args; pre = b .pre; past2 = b .past2; new-task = c .new-task }
@@ -45,17 +42,14 @@ returns c = then1 c
 abbrev pub returns-2 : (c : tie.After-enum-told) → typeOf (after-enum-told c)
 returns-2 c = after-enum-told c
 
-abbrev pub returns-3 : (c : tie.After-enum-told2) → typeOf (after-enum-told2 c)
-returns-3 c = after-enum-told2 c
+abbrev pub returns-3 : (c : tie.After-known-told) → typeOf (after-past (c .before))
+returns-3 c = after-past (c .before)
 
-abbrev pub returns-4 : (c : tie.After-known-told) → typeOf (after-past (c .before))
-returns-4 c = after-past (c .before)
+abbrev pub returns-4 : (c : tie.Else1) → typeOf (else1 c)
+returns-4 c = else1 c
 
-abbrev pub returns-5 : (c : tie.Else1) → typeOf (else1 c)
-returns-5 c = else1 c
-
-pub close : {M : Type 1} → tie.Need-enum-told → tie.Need-enum-told-2 → tie.Need-enum-known-past → tie.Need-enum-known-past-2 → tie.Need-new-task-requires → tie.Need-element-copy-out-if1 → tie.Need-returns → tie.Need-returns-2 → tie.Need-returns-3 → tie.Need-returns-4 → tie.Need-returns-5 → statement M
-close a0 a1 a2 a3 a4 a5 a6 a7 a8 a9 a10 =
+pub close : {M : Type 1} → tie.Need-enum-told → tie.Need-enum-known-past → tie.Need-enum-known-past-2 → tie.Need-new-task-requires → tie.Need-element-copy-out-if1 → tie.Need-returns → tie.Need-returns-2 → tie.Need-returns-3 → tie.Need-returns-4 → statement M
+close a0 a1 a2 a3 a4 a5 a6 a7 a8 =
     tie.close
     (tie.spec
     a0
@@ -66,6 +60,4 @@ close a0 a1 a2 a3 a4 a5 a6 a7 a8 a9 a10 =
     a5
     a6
     a7
-    a8
-    a9
-    a10)
+    a8)

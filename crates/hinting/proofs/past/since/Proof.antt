@@ -1,21 +1,18 @@
--- `hinting::past::hint` meets its contract.
+-- `hinting::past::since` meets its contract.
 -- Assumes nothing.
 use borrow.Author.Needs.{needs}
 use mathlib.Core.Path.{sym, ap, subst}
 use native.Mathlib.Omega.{arith}
-use Rattle.hinting.specs.Past.{Standing, hintAfter}
+use Rattle.hinting.specs.Past.{Standing, candidatesSince}
 use Rattle.hinting.specs.declared.past.Past.{Past}
-use Rattle.hinting.proofs.Lent.{few, hint-is, unlevelled}
-use Rattle.hinting.proofs.past.hint.Statement.{statement}
-use Rattle.hinting.proofs.past.hint.Tie as tie
-use Rattle.hinting.proofs.past.hint.Proof.Paths as at
+use Rattle.hinting.proofs.Lent.{few, since-is, unlevelled}
+use Rattle.hinting.proofs.past.since.Statement.{statement}
+use Rattle.hinting.proofs.past.since.Tie as tie
+use Rattle.hinting.proofs.past.since.Proof.Paths as at
 mod Paths
 
 enum-told : tie.Need-enum-told
 enum-told c = search needs
-
-enum-told-2 : tie.Need-enum-told-2
-enum-told-2 c = search needs
 
 enum-known-past : tie.Need-enum-known-past
 enum-known-past c = search needs
@@ -40,26 +37,23 @@ returns c =
     λ m r is s.
     let k = at.returns c in
     let g = k .past2 .given in
-    hint-is r (g .0 .0) (g .0 .1 .0) (g .0 .1 .1 .0) (g .0 .1 .1 .1 .0) (k .args .past) (g .1) (subst (Standing m) (g .1) s .1) _
+    since-is r (g .0 .0) (g .0 .1 .0) (g .0 .1 .1 .0) (g .0 .1 .1 .1 .0) (k .args .past) (g .1) (subst (Standing m) (g .1) s .1) _
     (k .new-task .ensures m (unlevelled r) is) _ (k .if1 .taken)
 
 returns-2 : tie.Need-returns-2
-returns-2 c = λ m r is s. ap (λ (p : Past). hintAfter p m) (sym (at.returns-2 c .enum-told .given .1))
+returns-2 c = λ m r is s. ap (λ (p : Past). candidatesSince p m) (sym (at.returns-2 c .enum-told .given .1))
 
 returns-3 : tie.Need-returns-3
-returns-3 c = λ m r is s. ap (λ (p : Past). hintAfter p m) (sym (at.returns-3 c .enum-told2 .given .1))
+returns-3 c = λ m r is s. ap (λ (p : Past). candidatesSince p m) (sym (at.returns-3 c .past .given .1))
 
 returns-4 : tie.Need-returns-4
-returns-4 c = λ m r is s. ap (λ (p : Past). hintAfter p m) (sym (at.returns-4 c .past .given .1))
-
-returns-5 : tie.Need-returns-5
-returns-5 c =
+returns-4 c =
     λ m r is s.
-    let k = at.returns-5 c in
+    let k = at.returns-4 c in
     let g = k .past2 .given in
-    hint-is r (g .0 .0) (g .0 .1 .0) (g .0 .1 .1 .0) (g .0 .1 .1 .1 .0) (k .args .past) (g .1) (subst (Standing m) (g .1) s .1) _
+    since-is r (g .0 .0) (g .0 .1 .0) (g .0 .1 .1 .0) (g .0 .1 .1 .1 .0) (k .args .past) (g .1) (subst (Standing m) (g .1) s .1) _
     (k .new-task .ensures m (unlevelled r) is) _ (k .if1 .left)
 
-pub hint-spec : {M : Type 1} → statement M
-hint-spec =
-    at.close enum-told enum-told-2 enum-known-past enum-known-past-2 new-task-requires element-copy-out-if1 returns returns-2 returns-3 returns-4 returns-5
+pub since-spec : {M : Type 1} → statement M
+since-spec =
+    at.close enum-told enum-known-past enum-known-past-2 new-task-requires element-copy-out-if1 returns returns-2 returns-3 returns-4

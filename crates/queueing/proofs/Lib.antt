@@ -1,0 +1,2 @@
+-- The laws of a task that goes where its plan says.
+pub mod Going

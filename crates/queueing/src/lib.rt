@@ -1,0 +1,193 @@
+// The task of a plan, whose columns are written, goes where the plan says: out of a row, into one, or both. The levels of these rows' CPUs
+// follow. Each says who can move then, if nobody could before.
+ghost use Rattle.bits.specs.Moments.{old, new};
+ghost use Rattle.levels.specs.Lent.{nowRecord, oldRecord, newRecord};
+ghost use Rattle.rules.specs.Machine.{Machine, Task};
+ghost use Rattle.rules.specs.Plan.{enter as entering, leave as leaving, shift as shifting, reorder as reordering};
+ghost use Rattle.queueing.specs.Moved.{Moving, Moved};
+use cpupri::record::CPUS;
+use cpupri::record::LEVELS;
+use cpupri::record::WORDS;
+use hinting::hint::Candidates;
+use hinting::past::new_task;
+use hinting::past::since;
+use hinting::past::standing;
+use parts::enter_if;
+use parts::follow_if;
+use parts::leave_if;
+
+// Into the row of `target`, behind its equals. It stood in none, so no CPU falls.
+pub fn enter(
+    state: &[u8],
+    prio: &[u8],
+    cpu: &mut [u8],
+    rows: &mut [u16],
+    counts: &mut [u16],
+    flags: &[u8],
+    masks: &mut [u64; LEVELS],
+    tallies: &mut [u8; LEVELS],
+    words: &mut [u64; WORDS],
+    levels: &mut [u8; CPUS],
+    task: u16,
+    target: usize,
+) -> Candidates
+    requires { let r = nowRecord masks tallies words levels in
+        ⌜ ((m : Machine) × ((τ : Task) × Moving m (entering task τ target) (now state) (now prio) (now cpu) (now rows) (now counts) (now flags) r)) ⌝ }
+    ensures { λ few. let r = oldRecord masks tallies words levels in
+        let q = newRecord masks tallies words levels in
+        ⌜ ((m : Machine) (τ : Task) → let p = entering task τ target in
+        Moving m p (old state) (old prio) (old cpu) (old rows) (old counts) (old flags) r
+        → Moved few m p (new cpu) (new rows) (new counts) q) ⌝ }
+{
+    enter_if(true, rows, counts, prio, cpu, target, task, false);
+    follow_if(
+        true,
+        rows,
+        counts,
+        prio,
+        flags,
+        masks,
+        tallies,
+        words,
+        levels,
+        target,
+    );
+    let new = new_task(task, target, false, state, cpu, rows);
+    Candidates { fallen: CPUS, new }
+}
+
+// Out of the row of `origin`.
+pub fn leave(
+    state: &[u8],
+    prio: &[u8],
+    cpu: &[u8],
+    rows: &mut [u16],
+    counts: &mut [u16],
+    flags: &[u8],
+    masks: &mut [u64; LEVELS],
+    tallies: &mut [u8; LEVELS],
+    words: &mut [u64; WORDS],
+    levels: &mut [u8; CPUS],
+    task: u16,
+    origin: usize,
+) -> Candidates
+    requires { let r = nowRecord masks tallies words levels in
+        ⌜ ((m : Machine) × ((τ : Task) × Moving m (leaving task origin τ) (now state) (now prio) (now cpu) (now rows) (now counts) (now flags) r)) ⌝ }
+    ensures { λ few. let r = oldRecord masks tallies words levels in
+        let q = newRecord masks tallies words levels in
+        ⌜ ((m : Machine) (τ : Task) → let p = leaving task origin τ in
+        Moving m p (old state) (old prio) (old cpu) (old rows) (old counts) (old flags) r
+        → Moved few m p (old cpu) (new rows) (new counts) q) ⌝ }
+{
+    let past = standing(task, cpu, rows, levels);
+    leave_if(true, rows, counts, origin, task);
+    follow_if(
+        true,
+        rows,
+        counts,
+        prio,
+        flags,
+        masks,
+        tallies,
+        words,
+        levels,
+        origin,
+    );
+    since(past, state, cpu, rows, levels)
+}
+
+// To another place in the row of `home`, in front of its equals or behind them.
+pub fn reorder(
+    state: &[u8],
+    prio: &[u8],
+    cpu: &mut [u8],
+    rows: &mut [u16],
+    counts: &mut [u16],
+    flags: &[u8],
+    masks: &mut [u64; LEVELS],
+    tallies: &mut [u8; LEVELS],
+    words: &mut [u64; WORDS],
+    levels: &mut [u8; CPUS],
+    task: u16,
+    home: usize,
+    front: bool,
+) -> Candidates
+    requires { let r = nowRecord masks tallies words levels in
+        ⌜ ((m : Machine) × ((τ : Task) × Moving m (reordering front task home τ) (now state) (now prio) (now cpu) (now rows) (now counts) (now flags) r)) ⌝ }
+    ensures { λ few. let r = oldRecord masks tallies words levels in
+        let q = newRecord masks tallies words levels in
+        ⌜ ((m : Machine) (τ : Task) → let p = reordering front task home τ in
+        Moving m p (old state) (old prio) (old cpu) (old rows) (old counts) (old flags) r
+        → Moved few m p (new cpu) (new rows) (new counts) q) ⌝ }
+{
+    let past = standing(task, cpu, rows, levels);
+    leave_if(true, rows, counts, home, task);
+    enter_if(true, rows, counts, prio, cpu, home, task, front);
+    follow_if(
+        true,
+        rows,
+        counts,
+        prio,
+        flags,
+        masks,
+        tallies,
+        words,
+        levels,
+        home,
+    );
+    since(past, state, cpu, rows, levels)
+}
+
+// From the row of `origin` to that of `target`, behind its equals.
+pub fn shift(
+    state: &[u8],
+    prio: &[u8],
+    cpu: &mut [u8],
+    rows: &mut [u16],
+    counts: &mut [u16],
+    flags: &[u8],
+    masks: &mut [u64; LEVELS],
+    tallies: &mut [u8; LEVELS],
+    words: &mut [u64; WORDS],
+    levels: &mut [u8; CPUS],
+    task: u16,
+    origin: usize,
+    target: usize,
+) -> Candidates
+    requires { let r = nowRecord masks tallies words levels in
+        ⌜ ((m : Machine) × ((τ : Task) × Moving m (shifting task origin τ target) (now state) (now prio) (now cpu) (now rows) (now counts) (now flags) r)) ⌝ }
+    ensures { λ few. let r = oldRecord masks tallies words levels in
+        let q = newRecord masks tallies words levels in
+        ⌜ ((m : Machine) (τ : Task) → let p = shifting task origin τ target in
+        Moving m p (old state) (old prio) (old cpu) (old rows) (old counts) (old flags) r
+        → Moved few m p (new cpu) (new rows) (new counts) q) ⌝ }
+{
+    let past = standing(task, cpu, rows, levels);
+    leave_if(true, rows, counts, origin, task);
+    enter_if(true, rows, counts, prio, cpu, target, task, false);
+    follow_if(
+        true,
+        rows,
+        counts,
+        prio,
+        flags,
+        masks,
+        tallies,
+        words,
+        levels,
+        origin,
+    );
+    follow_if(
+        true,
+        rows,
+        counts,
+        prio,
+        flags,
+        masks,
+        tallies,
+        words,
+        levels,
+        target,
+    );
+    since(past, state, cpu, rows, levels)
+}
