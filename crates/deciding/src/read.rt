@@ -63,7 +63,7 @@ pub fn subject(n: usize, rows: &[u16], counts: &[u16], kind: u32, who: u32) -> u
 }
 
 // The task that runs on a CPU; 65535 if none does, or there is no such CPU.
-fn running(n: usize, rows: &[u16], counts: &[u16], cpu: usize) -> u16
+pub fn running(n: usize, rows: &[u16], counts: &[u16], cpu: usize) -> u16
     requires { ⌜ ((m : Machine) × LentRows m n (now rows) (now counts)) ⌝ }
     ensures { λ r. ⌜ ((m : Machine) → LentRows m n (old rows) (old counts) → r ≡ firstOf (row m cpu)) ⌝ }
 {

@@ -1,7 +1,7 @@
 -- An event's own effect by what was decided: refused, nothing, or a plan whose task has gone where it says.
 -- Assumes nothing.
 use mathlib.Core.Path.{_≡_, refl, sym, ap, _∙_, subst, subst₂}
-use mathlib.Core.Bool.{Bool, true, false, cond}
+use mathlib.Core.Bool.{Bool, true, false, cond, true≢false}
 use mathlib.Core.List.{List, [], _∷_}
 use mathlib.Core.Logic.{inl, inr}
 use mathlib.Core.Option.{none}
@@ -17,13 +17,13 @@ use Rattle.levels.specs.declared.record.Record.{Record}
 use Rattle.rules.specs.Machine.{Machine, Task, taskOf, taskPlaces, cpuPlaces}
 use Rattle.rules.specs.Events.{Event, effect}
 use Rattle.rules.specs.Migration.{next}
-use Rattle.rules.specs.Plan.{Plan, carried, Doable, Carries}
+use Rattle.rules.specs.Plan.{Plan, carried, rewrite, reorder, shift, Doable, Carries}
 use Rattle.rules.specs.Refusals.{refusal}
 use Rattle.rules.specs.Tables.{nothing}
 use Rattle.rules.specs.WellFormed.{WellFormed}
 use Rattle.laws.proofs.Effects.{keep-effect}
 use Rattle.laws.proofs.Touched.{limited-settled}
-use Rattle.plans.specs.Decided.{asTask, asPlan, Named, Shaped}
+use Rattle.plans.specs.Decided.{asTask, asPlan, Named, Shaped, Reorders, Shifts}
 use Rattle.plans.specs.declared.plan.Task.{Task as Columns}
 use Rattle.plans.specs.declared.plan.Plan.{Plan as Written}
 use Rattle.plans.specs.declared.plan.Decision.{Decision}
@@ -54,6 +54,33 @@ only-nothing s (Place p) (inr (inr (inr h))) k = absurd (omega arith)
 only-nothing s (Flag c b) h k = absurd k
 only-nothing s (Offline c) h k = absurd k
 only-nothing s (Online c) h k = absurd k
+
+-- ---- a plan by its shape
+
+module _ (q : Written) (t c : ℕ) (τ : Task) where
+  pub stays-there : Reorders t c τ (asPlan q) → q .enters ≡ false → asPlan q ≡ rewrite (q .task) (asTask (q .becomes))
+  stays-there (inl e) z = e ∙ ap (λ (p : Plan). rewrite (p .task) (p .becomes)) (sym e)
+  stays-there (inr (f, e)) z = absurd (true≢false (sym (ap (λ (p : Plan). p .enters) e) ∙ z))
+
+  pub takes-place : Reorders t c τ (asPlan q) → q .enters ≡ true → asPlan q ≡ reorder (q .front) (q .task) (q .origin) (asTask (q .becomes))
+  takes-place (inl e) z = absurd (true≢false (sym z ∙ ap (λ (p : Plan). p .enters) e))
+  takes-place (inr (f, e)) z = e ∙ ap (λ (p : Plan). reorder (p .front) (p .task) (p .origin) (p .becomes)) (sym e)
+
+  pub reorders-task : Reorders t c τ (asPlan q) → (q .task ≡ t) × (asTask (q .becomes) ≡ τ)
+  reorders-task (inl e) = (ap (λ (p : Plan). p .task) e, ap (λ (p : Plan). p .becomes) e)
+  reorders-task (inr (f, e)) = (ap (λ (p : Plan). p .task) e, ap (λ (p : Plan). p .becomes) e)
+
+  pub stays-in-row : Shifts t c τ (asPlan q) → q .enters ≡ false → asPlan q ≡ rewrite (q .task) (asTask (q .becomes))
+  stays-in-row (inl e) z = e ∙ ap (λ (p : Plan). rewrite (p .task) (p .becomes)) (sym e)
+  stays-in-row (inr (d, e)) z = absurd (true≢false (sym (ap (λ (p : Plan). p .enters) e) ∙ z))
+
+  pub changes-row : Shifts t c τ (asPlan q) → q .enters ≡ true → asPlan q ≡ shift (q .task) (q .origin) (asTask (q .becomes)) (q .target)
+  changes-row (inl e) z = absurd (true≢false (sym z ∙ ap (λ (p : Plan). p .enters) e))
+  changes-row (inr (d, e)) z = e ∙ ap (λ (p : Plan). shift (p .task) (p .origin) (p .becomes) (p .target)) (sym e)
+
+  pub shifts-task : Shifts t c τ (asPlan q) → (q .task ≡ t) × (asTask (q .becomes) ≡ τ)
+  shifts-task (inl e) = (ap (λ (p : Plan). p .task) e, ap (λ (p : Plan). p .becomes) e)
+  shifts-task (inr (d, e)) = (ap (λ (p : Plan). p .task) e, ap (λ (p : Plan). p .becomes) e)
 
 -- a task that is placed is one
 pub place-task : (m : Machine) (e : Event) (q : Written) → Decides m e (Place q) → q .task < taskPlaces

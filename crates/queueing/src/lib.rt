@@ -3,7 +3,7 @@
 ghost use Rattle.bits.specs.Moments.{old, new};
 ghost use Rattle.levels.specs.Lent.{nowRecord, oldRecord, newRecord};
 ghost use Rattle.rules.specs.Machine.{Machine, Task};
-ghost use Rattle.rules.specs.Plan.{enter as entering, leave as leaving, shift as shifting, reorder as reordering};
+ghost use Rattle.rules.specs.Plan.{enter as entering, leave as leaving, shift as shifting, reorder as reordering, rewrite as rewriting};
 ghost use Rattle.queueing.specs.Moved.{Moving, Moved};
 use cpupri::record::CPUS;
 use cpupri::record::LEVELS;
@@ -189,5 +189,30 @@ pub fn shift(
         levels,
         target,
     );
+    since(past, state, cpu, rows, levels)
+}
+
+// Nowhere: it stays where it is.
+pub fn stay(
+    state: &[u8],
+    prio: &[u8],
+    cpu: &[u8],
+    rows: &[u16],
+    counts: &[u16],
+    flags: &[u8],
+    masks: &[u64; LEVELS],
+    tallies: &[u8; LEVELS],
+    words: &[u64; WORDS],
+    levels: &[u8; CPUS],
+    task: u16,
+) -> Candidates
+    requires { let r = nowRecord masks tallies words levels in
+        ⌜ ((m : Machine) × ((τ : Task) × Moving m (rewriting task τ) (now state) (now prio) (now cpu) (now rows) (now counts) (now flags) r)) ⌝ }
+    ensures { λ few. let r = oldRecord masks tallies words levels in
+        ⌜ ((m : Machine) (τ : Task) → let p = rewriting task τ in
+        Moving m p (old state) (old prio) (old cpu) (old rows) (old counts) (old flags) r
+        → Moved few m p (old cpu) (old rows) (old counts) r) ⌝ }
+{
+    let past = standing(task, cpu, rows, levels);
     since(past, state, cpu, rows, levels)
 }
