@@ -5,7 +5,7 @@ use mathlib.Core.Bool.{Bool, true, false, cond, true≢false}
 use mathlib.Core.List.{List, [], _∷_}
 use mathlib.Core.Logic.{inl, inr}
 use mathlib.Core.Option.{none}
-use Prim.Native.Nat.{ℕ, _<_}
+use Prim.Native.Nat.{ℕ, _≤_, _<_}
 use types.Run.{OneOf}
 use denote.Enum.Declared.{tagOf}
 use native.Mathlib.Omega.{arith}
@@ -14,22 +14,23 @@ use lib.ListN.{length, set, getD}
 use lib.Seq.{set-getD}
 use borrow.Author.Tests.{eq-eqb, ne-eqb}
 use Rattle.levels.specs.declared.record.Record.{Record}
-use Rattle.rules.specs.Machine.{Machine, Task, taskOf, taskPlaces, cpuPlaces}
+use Rattle.rules.specs.Machine.{Machine, Task, Column, taskOf, row, store, write, taskPlaces, cpuPlaces}
 use Rattle.rules.specs.Events.{Event, effect}
 use Rattle.rules.specs.Migration.{next}
-use Rattle.rules.specs.Plan.{Plan, carried, rewrite, reorder, shift, Doable, Carries}
+use Rattle.rules.specs.Plan.{Plan, carried, rewrite, reorder, shift, withSlice, Doable, Carries}
 use Rattle.rules.specs.Refusals.{refusal}
 use Rattle.rules.specs.Tables.{nothing}
 use Rattle.rules.specs.WellFormed.{WellFormed}
 use Rattle.laws.proofs.Effects.{keep-effect}
 use Rattle.laws.proofs.Touched.{limited-settled}
-use Rattle.plans.specs.Decided.{asTask, asPlan, Named, Shaped, Reorders, Shifts}
+use Rattle.plans.proofs.Planned.{write-slice}
+use Rattle.plans.specs.Decided.{asTask, asPlan, Named, Runs, firstOf, Shaped, Reorders, Shifts}
 use Rattle.plans.specs.declared.plan.Task.{Task as Columns}
 use Rattle.plans.specs.declared.plan.Plan.{Plan as Written}
 use Rattle.plans.specs.declared.plan.Decision.{Decision}
 use Rattle.plans.specs.declared.plan.Decision.the-variants.{Refused, Nothing, Place, Flag, Offline, Online}
 use Rattle.plans.proofs.plan.Decision.{the-type}
-use Rattle.deciding.specs.Subject.{entries, Decides}
+use Rattle.deciding.specs.Subject.{entries, Decides, LentRows}
 use Rattle.carrying.specs.Holds.{Holds, Placeable}
 use Rattle.carrying.proofs.Placing.{column, flags-kept, online-kept}
 use Rattle.hinting.specs.Hinted.{candidates, Among}
@@ -119,6 +120,16 @@ module _ {m : Machine} {ss ps qs cs ls ks flat ns fs : List ℕ} {on : ℕ} {r :
   pub named-is : (t : ℕ) {τ : Columns} → asTask τ ≡ entries ss ps qs cs ls ks t → Named m t τ
   named-is t read = record { formed = l .formed; columns = columns-are t read }
 
+  -- and of the task that runs on CPU c
+  pub runs-is : (c : ℕ) {t : ℕ} {τ : Columns} → t ≡ firstOf (row m c) → asTask τ ≡ entries ss ps qs cs ls ks t → Runs m c t τ
+  runs-is c {t} first read = record { formed = l .formed; first = first; columns = columns-are t read }
+
+  pub lent-rows : {n : ℕ} → n ≡ m .n → LentRows m n flat ns
+  lent-rows is = record { formed = l .formed; cpus = is; rows = l .holds .rows; counts = l .holds .counts }
+
+  pub few-cpus : {n : ℕ} → n ≡ m .n → n ≤ cpuPlaces
+  few-cpus is = subst (λ (x : ℕ). x ≤ cpuPlaces) (sym is) (l .formed .shape .cpus)
+
   module _ (e : Event) where
     pub refused-is : {a : ℕ} {o : Effect} → Decides m e (Refused a) → o ≡ told a cpuPlaces nothing → Effected m e o ss ps qs cs ls ks flat ns fs on r
     unfolding Decides
@@ -139,6 +150,41 @@ module _ {m : Machine} {ss ps qs cs ls ks flat ns fs : List ℕ} {on : ℕ} {r :
           few = λ z still.
               subst₂ (λ (x : Machine) (y : Effect). Among x (candidates (y .fallen) (y .new))) (sym (d .1)) (sym is) (limited-settled m still);
         }
+
+    -- another slice, and nothing else: nobody looks at it
+    pub sliced-is : {q : Written} {o : Effect} {ls′ : List ℕ} (v : ℕ) → Decides m e (Place q) → asPlan q ≡ rewrite (q .task) (asTask (q .becomes))
+        → asTask (q .becomes) ≡ withSlice v (taskOf m (q .task)) → ls′ ≡ set (m .slice) (q .task) (q .becomes .slice) → o ≡ told 0 cpuPlaces nothing
+        → Effected m e o ss ps qs cs ls′ ks flat ns fs on r
+    unfolding Decides
+    sliced-is {q} {o} {ls′} v d shape becomes el is =
+        record {
+          answer = ap (λ (x : Effect). x .answer) is ∙ d .0;
+          holds = subst (λ (b : Bool). Holds (cond b (effect e m) m) ss ps qs cs ls′ ks flat ns fs on r) (sym (eq-eqb (refusal m e) 0 (sym (d .0))))
+              (subst (λ (b : Machine). Holds b ss ps qs cs ls′ ks flat ns fs on r) (sym sliced) all);
+          few = λ z still.
+              subst₂ (λ (x : Machine) (y : Effect). Among x (candidates (y .fallen) (y .new))) (sym sliced) (sym is)
+              (let s = limited-settled m still in record { small = s .small; waits = s .waits; only = s .only; quiet = s .quiet });
+        }
+      where
+        sliced : effect e m ≡ store Column.slice (q .task) v m
+        sliced =
+            d .1 .effect ∙ ap (λ (p : Plan). carried p m) shape ∙ ap (λ (τ : Task). write (q .task) τ m) becomes ∙ write-slice (q .task) v m
+
+        all : Holds (store Column.slice (q .task) v m) ss ps qs cs ls′ ks flat ns fs on r
+        all =
+            record {
+              state = l .holds .state;
+              policy = l .holds .policy;
+              prio = l .holds .prio;
+              cpu = l .holds .cpu;
+              slice = el ∙ ap (λ (τ : Task). set (m .slice) (q .task) (τ .slice)) becomes;
+              mask = l .holds .mask;
+              rows = l .holds .rows;
+              counts = l .holds .counts;
+              flags = l .holds .flags;
+              online = l .holds .online;
+              levels = l .holds .levels;
+            }
 
     module _ {q : Written} (d : Decides m e (Place q)) {p : Plan} (shape : asPlan q ≡ p) where
       carries : (0 ≡ refusal m e) × Carries (effect e m) m p

@@ -68,7 +68,7 @@ pub fn tick(
                 levels,
                 plan.task,
                 plan.origin,
-                false,
+                plan.front,
             ))
         }
         _ => quiet(),
@@ -118,7 +118,7 @@ pub fn yield_cpu(
             levels,
             plan.task,
             plan.origin,
-            false,
+            plan.front,
         )),
         _ => quiet(),
     }

@@ -1,127 +1,152 @@
+-- `ticking::yield_cpu` meets its contract.
+-- Assumes nothing.
 use borrow.Author.Needs.{needs}
+use mathlib.Core.Path.{_≡_, refl, sym, ap, _∙_, subst}
+use mathlib.Core.Bool.{false}
+use Prim.Native.Nat.{ℕ}
+use Rattle.cpupri.specs.Record.{lentRecord}
+use Rattle.rules.specs.Machine.{Machine, Task, taskOf}
+use Rattle.rules.specs.Events.{event, yield}
+use Rattle.rules.specs.Plan.{Plan, reorder}
+use Rattle.plans.specs.Decided.{asTask, asPlan, Shaped}
+use Rattle.plans.specs.declared.plan.Plan.{Plan as Written}
+use Rattle.plans.specs.declared.plan.Decision.the-variants.{Place}
+use Rattle.deciding.specs.Subject.{Decides}
+use Rattle.deciding.proofs.Deciding.{by-kind}
+use Rattle.effect.specs.Effected.{Lends}
+use Rattle.effect.proofs.Effects.{only-nothing, unchanged, sized, columns-are, runs-is, lent-rows, few-cpus, refused-is, nothing-is, moving, placed-is}
 use Rattle.ticking.proofs.yield_cpu.Statement.{statement}
 use Rattle.ticking.proofs.yield_cpu.Tie as tie
-use Rattle.ticking.proofs.yield_cpu.Reads as reads
-use Rattle.ticking.proofs.yield_cpu.Lts as lts
-use Rattle.deciding.proofs.read.running.Reads as running-reads
-use Rattle.deciding.proofs.read.task_at.Reads as task-at-reads
-use Rattle.effect.proofs.done.Reads as done-reads
-use Rattle.effect.proofs.quiet.Reads as quiet-reads
-use Rattle.effect.proofs.refused.Reads as refused-reads
-use Rattle.percpu.proofs.yield_cpu.Reads as yield-cpu-reads
-use Rattle.queueing.proofs.reorder.Reads as reorder-reads
+use Rattle.ticking.proofs.yield_cpu.Proof.Paths as at
+mod Paths
 
--- src/lib.rt:104:14
+-- ---- what was lent, and what was decided
+
+module _ (c : tie.Start) where
+  abbrev Lent : Machine → Type 0
+  Lent m =
+      let x = c .args in
+      Lends m (x .state .now) (x .policy .now) (x .prio .now) (x .cpu .now) (x .slice .now) (x .mask .now) (x .rows .now) (x .counts .now) (x .flags .now) (x .online)
+      (lentRecord (x .masks .now) (x .tallies .now) (x .words .now) (x .levels .now))
+
+module _ (c : tie.After-yield-cpu) where
+  right : (m : Machine) (a b k : ℕ) → Lent (at.after-yield-cpu c .start) m → at.after-yield-cpu c .args .n ≡ m .n → Decides m (event 8 (at.after-yield-cpu c .args .who) a b k) (at.after-yield-cpu c .yield-cpu .result)
+  right m a b k l n =
+      let v = at.after-yield-cpu c in
+      by-kind m (event 8 (v .args .who) a b k) yield _ refl
+      (v .yield-cpu .ensures .0 m 8 a b k n (l .holds .online) (runs-is l (v .args .who) (v .running .ensures m (lent-rows l n)) (v .task-at .ensures)))
+
+-- ---- the plan
+
+module _ (c : tie.After-yield-cpu) (q : Written) (is : at.after-yield-cpu c .yield-cpu .result ≡ Place q) where
+  placed : (m : Machine) (a b k : ℕ) → Lent (at.after-yield-cpu c .start) m → at.after-yield-cpu c .args .n ≡ m .n → Decides m (event 8 (at.after-yield-cpu c .args .who) a b k) (Place q)
+  placed m a b k l n = let v = at.after-yield-cpu c in subst (Decides m (event 8 (v .args .who) a b k)) is (right c m a b k l n)
+
+  shaped : let v = at.after-yield-cpu c in asPlan q ≡ reorder false (v .running .result) (v .args .who) (asTask (v .task-at .result))
+  shaped =
+      let v = at.after-yield-cpu c in
+      subst (Shaped (λ p. p ≡ reorder false (v .running .result) (v .args .who) (asTask (v .task-at .result)))) is (v .yield-cpu .ensures .1)
+
+  shape : asPlan q ≡ reorder (q .front) (q .task) (q .origin) (asTask (q .becomes))
+  shape = shaped ∙ ap (λ (p : Plan). reorder (p .front) (p .task) (p .origin) (p .becomes)) (sym shaped)
+
+  -- all columns are what they were
+  becomes : (m : Machine) → Lent (at.after-yield-cpu c .start) m → asTask (q .becomes) ≡ taskOf m (q .task)
+  becomes m l =
+      let v = at.after-yield-cpu c in
+      ap (λ (p : Plan). p .becomes) shaped ∙ columns-are l (v .running .result) (v .task-at .ensures) ∙ ap (taskOf m) (sym (ap (λ (p : Plan). p .task) shaped))
+
+-- ---- the needs
+
 running-requires : tie.Need-running-requires
-running-requires c κs = ?
+running-requires c κs = let k = at.running-requires c in (k .pre .0, lent-rows (k .pre .1 .0) (k .pre .1 .1))
 
--- src/lib.rt:104:14
 cast-at : tie.Need-cast-at
 cast-at c = search needs
 
--- src/lib.rt:105:9
 task-at-requires : tie.Need-task-at-requires
-task-at-requires c κs = ?
+task-at-requires c κs = sized (at.task-at-requires c .pre .1 .0)
 
--- src/lib.rt:106:11
 yield-cpu-requires : tie.Need-yield-cpu-requires
-yield-cpu-requires c κs = ?
+yield-cpu-requires c κs = let k = at.yield-cpu-requires c in few-cpus (k .pre .1 .0) (k .pre .1 .1)
 
--- src/lib.rt:107:27
 enum-known-number : tie.Need-enum-known-number
 enum-known-number c = search needs
 
--- src/lib.rt:107:38
 refused-requires : tie.Need-refused-requires
 refused-requires c κs = search needs
 
--- src/lib.rt:108:25
 enum-known-plan : tie.Need-enum-known-plan
 enum-known-plan c = search needs
 
--- src/lib.rt:108:39
 reorder-requires : tie.Need-reorder-requires
-reorder-requires c κs = ?
+reorder-requires c κs =
+    let k = at.reorder-requires c in
+    let m = k .pre .0 in
+    let l = k .pre .1 .0 in
+    let h = l .holds in
+    let w = k .after-yield-cpu in
+    let q = k .plan .given .0 .0 in
+    let is = k .plan .given .1 in
+    let x = becomes w q is m l in (
+      m,
+      (
+        asTask (q .becomes),
+        moving l (event 8 (k .args .who) 0 0 0) (placed w q is m 0 0 0 l (k .pre .1 .1)) (shape w q is) (ap (λ (τ : Task). τ .cpu) x)
+            (unchanged (q .task) (h .state) (ap (λ (τ : Task). τ .state) x)) (unchanged (q .task) (h .prio) (ap (λ (τ : Task). τ .prio) x)),
+      ),
+    )
 
--- src/lib.rt:108:34
 done-requires : tie.Need-done-requires
 done-requires c κs = search needs
 
--- src/lib.rt:123:14
 quiet-requires : tie.Need-quiet-requires
 quiet-requires c κs = search needs
 
--- src/lib.rt:79:1
-same-length : tie.Need-same-length
-same-length c = search needs
-
--- src/lib.rt:79:1
-same-length-2 : tie.Need-same-length-2
-same-length-2 c = search needs
-
--- src/lib.rt:79:1
-same-length-3 : tie.Need-same-length-3
-same-length-3 c = search needs
-
--- src/lib.rt:79:1
 returns : tie.Need-returns
-returns c = ?
+returns c =
+    λ m a b j l n.
+    let k = at.returns c in
+    let e = event 8 (k .args .who) a b j in
+    refused-is l e (subst (Decides m e) (k .number .given .1) (right (k .after-yield-cpu) m a b j l n)) (k .refused .ensures)
 
--- src/lib.rt:79:1
 same-length-4 : tie.Need-same-length-4
 same-length-4 c = search needs
 
--- src/lib.rt:79:1
 same-length-5 : tie.Need-same-length-5
 same-length-5 c = search needs
 
--- src/lib.rt:79:1
 same-length-6 : tie.Need-same-length-6
 same-length-6 c = search needs
 
--- src/lib.rt:79:1
 returns-2 : tie.Need-returns-2
-returns-2 c = ?
+returns-2 c =
+    λ m a b j l n.
+    let k = at.returns-2 c in
+    let h = l .holds in
+    let w = k .after-yield-cpu in
+    let q = k .plan .given .0 .0 in
+    let is = k .plan .given .1 in
+    let t = q .task in
+    let e = event 8 (k .args .who) a b j in
+    let d = placed w q is m a b j l n in
+    let x = becomes w q is m l in
+    let s = shape w q is in
+    let state = unchanged t (h .state) (ap (λ (τ : Task). τ .state) x) in
+    let prio = unchanged t (h .prio) (ap (λ (τ : Task). τ .prio) x) in
+    placed-is l e d s state (unchanged t (h .policy) (ap (λ (τ : Task). τ .policy) x)) prio (unchanged t (h .slice) (ap (λ (τ : Task). τ .slice) x))
+    (unchanged t (h .mask) (ap (λ (τ : Task). τ .mask) x)) (k .reorder .ensures m (asTask (q .becomes)) (moving l e d s (ap (λ (τ : Task). τ .cpu) x) state prio))
+    (k .done .ensures)
 
--- src/lib.rt:79:1
-same-length-7 : tie.Need-same-length-7
-same-length-7 c = search needs
-
--- src/lib.rt:79:1
-same-length-8 : tie.Need-same-length-8
-same-length-8 c = search needs
-
--- src/lib.rt:79:1
-same-length-9 : tie.Need-same-length-9
-same-length-9 c = search needs
-
--- src/lib.rt:79:1
 returns-3 : tie.Need-returns-3
-returns-3 c = ?
+returns-3 c =
+    λ m a b j l n.
+    let k = at.returns-3 c in
+    let e = event 8 (k .args .who) a b j in
+    nothing-is l e (subst (Decides m e) (only-nothing _ (k .yield-cpu .result) (k .match .keys3) (k .yield-cpu .ensures .1)) (right (k .after-yield-cpu) m a b j l n))
+    (k .quiet .ensures)
 
 pub yield-cpu-spec : {M : Type 1} → statement M
 yield-cpu-spec =
-    tie.close
-    (tie.spec
-    running-requires
-    cast-at
-    task-at-requires
-    yield-cpu-requires
-    enum-known-number
-    refused-requires
-    enum-known-plan
-    reorder-requires
-    done-requires
-    quiet-requires
-    same-length
-    same-length-2
-    same-length-3
-    returns
-    same-length-4
-    same-length-5
-    same-length-6
-    returns-2
-    same-length-7
-    same-length-8
-    same-length-9
-    returns-3)
+    at.close running-requires cast-at task-at-requires yield-cpu-requires enum-known-number refused-requires enum-known-plan reorder-requires done-requires quiet-requires returns
+    same-length-4 same-length-5 same-length-6 returns-2 returns-3
