@@ -9,14 +9,14 @@ use Prim.Native.Nat.{ℕ, suc, _<_}
 use native.Mathlib.Nat.{suc-ne-zero}
 use native.Mathlib.Omega.{arith}
 use lib.ListN.{length}
-use Rattle.rules.specs.Machine.{Machine, taskOf, row, taskPlaces}
+use Rattle.rules.specs.Machine.{Machine, taskPlaces}
 use Rattle.rules.specs.Events.{Event, Kind, kindOf, byKind, effectOf}
 use Rattle.rules.specs.Refusals.{firstFailing, noKind, checks, unknownKind}
 use Rattle.laws.proofs.Lists.{same?}
 use Rattle.laws.proofs.Checks.{no-kind}
-use Rattle.plans.specs.Decided.{asTask, firstOf, Named, Runs, strands, Decided, DecidedAs}
+use Rattle.plans.specs.Decided.{asTask, Named, strands, Decided, DecidedAs}
 use Rattle.stranding.specs.Stranding.{strandsBy}
-use Rattle.deciding.specs.Subject.{entries, subjectOf, Lent, Decides}
+use Rattle.deciding.specs.Subject.{entries, Lent, Decides}
 use Rattle.plans.specs.declared.plan.Task.{Task as Columns}
 use Rattle.plans.specs.declared.plan.Decision.{Decision}
 use Rattle.plans.specs.declared.plan.Decision.the-variants.{Refused}
@@ -52,7 +52,7 @@ unnamed k n1 n2 n3 n4 n5 n6 n7 n8 n9 n10 n11 = go (same? k 0)
 
 -- ---- what is read
 
-module _ {m : Machine} {n on full : ℕ} {ss ps qs cs ls ks : List ℕ} {t : ℕ} {b : Bool} {kind who : ℕ} (l : Lent m n on full ss ps qs cs ls ks t b kind who) where
+module _ {m : Machine} {n on full : ℕ} {ss ps qs cs ls ks : List ℕ} {b : Bool} {kind who : ℕ} (l : Lent m n on full ss ps qs cs ls ks b kind who) where
   pub sized : (length ss ≡ taskPlaces)
       × ((length ps ≡ taskPlaces) × ((length qs ≡ taskPlaces) × ((length cs ≡ taskPlaces) × ((length ls ≡ taskPlaces) × (length ks ≡ taskPlaces)))))
   sized = (
@@ -70,18 +70,9 @@ module _ {m : Machine} {n on full : ℕ} {ss ps qs cs ls ks : List ℕ} {t : ℕ
   pub strands-is : kind ≡ 10 → b ≡ strands m who
   strands-is e = l .stranding ∙ ap (λ (x : ℕ). strandsBy m x who) e
 
-  module _ {τ : Columns} (read : asTask τ ≡ entries ss ps qs cs ls ks t) where
-    columns : asTask τ ≡ taskOf m t
-    columns = read ∙ (λ i. entries (l .state i) (l .policy i) (l .prio i) (l .cpu i) (l .slice i) (l .mask i) t)
-
-    -- kind j names a task
-    pub named : (j : ℕ) → kind ≡ j → subjectOf m j who ≡ who → Named m who τ
-    named j e about =
-        record {
-          formed = l .formed;
-          columns = subst (λ (u : ℕ). asTask τ ≡ taskOf m u) (l .subject ∙ ap (λ (x : ℕ). subjectOf m x who) e ∙ about) columns;
-        }
-
-    -- kind j names a CPU
-    pub runner : (j : ℕ) → kind ≡ j → subjectOf m j who ≡ firstOf (row m who) → Runs m who t τ
-    runner j e about = record { formed = l .formed; first = l .subject ∙ ap (λ (x : ℕ). subjectOf m x who) e ∙ about; columns = columns }
+  pub named : {τ : Columns} → asTask τ ≡ entries ss ps qs cs ls ks who → Named m who τ
+  named read =
+      record {
+        formed = l .formed;
+        columns = read ∙ (λ i. entries (l .state i) (l .policy i) (l .prio i) (l .cpu i) (l .slice i) (l .mask i) who);
+      }

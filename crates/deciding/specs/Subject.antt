@@ -1,27 +1,19 @@
 -- What an event is decided from, and the right decision.
 -- Assumes nothing.
 use mathlib.Core.Path.{_≡_}
-use mathlib.Core.Bool.{Bool, cond}
+use mathlib.Core.Bool.{Bool}
+use mathlib.Core.Logic.{_≢_}
 use mathlib.Core.List.{List}
 use Prim.Native.Nat.{ℕ}
-use lib.Dec.{leb}
 use lib.ListN.{getD}
-use Rattle.rules.specs.Machine.{Machine, Task, row}
+use Rattle.rules.specs.Machine.{Machine, Task}
 use Rattle.rules.specs.Tables.{flatOf, rowCounts}
 use Rattle.rules.specs.WellFormed.{WellFormed}
 use Rattle.rules.specs.Events.{Event, effect}
 use Rattle.rules.specs.Refusals.{refusal}
-use Rattle.plans.specs.Decided.{firstOf, Decided}
+use Rattle.plans.specs.Decided.{Decided}
 use Rattle.stranding.specs.Stranding.{strandsBy}
 use Rattle.plans.specs.declared.plan.Decision.{Decision}
-
--- kinds up to this one name a task, later ones a CPU
-abbrev pub lastTaskKind : ℕ
-lastTaskKind = 6
-
--- the task that an event is about: the one that it names, or the one that runs on the CPU that it names
-abbrev pub subjectOf : Machine → ℕ → ℕ → ℕ
-subjectOf m kind who = cond (leb kind lastTaskKind) who (firstOf (row m who))
 
 -- the task at a place of the six columns; a number that is no place reads as a free one
 abbrev pub entries : List ℕ → List ℕ → List ℕ → List ℕ → List ℕ → List ℕ → ℕ → Task
@@ -31,9 +23,18 @@ entries ss ps qs cs ls ks t =
 unfoldable pub Decides : Machine → Event → Decision → Type 0
 Decides m e d = Decided (refusal m e) (effect e m) m d
 
+-- a kind that is decided with others: none of 3 to 8
+pub record Rare (k : ℕ) : Type 0 where
+  pub wake : k ≢ 3
+  pub sleep : k ≢ 4
+  pub set-priority : k ≢ 5
+  pub set-affinity : k ≢ 6
+  pub tick : k ≢ 7
+  pub yield : k ≢ 8
+
 -- ---- what is lent
 
-pub record Lent (m : Machine) (n on full : ℕ) (ss ps qs cs ls ks : List ℕ) (t : ℕ) (b : Bool) (kind who : ℕ) : Type 0 where
+pub record Lent (m : Machine) (n on full : ℕ) (ss ps qs cs ls ks : List ℕ) (b : Bool) (kind who : ℕ) : Type 0 where
   pub formed : WellFormed m
   pub cpus : n ≡ m .n
   pub online : on ≡ m .online
@@ -44,7 +45,6 @@ pub record Lent (m : Machine) (n on full : ℕ) (ss ps qs cs ls ks : List ℕ) (
   pub cpu : cs ≡ m .cpu
   pub slice : ls ≡ m .slice
   pub mask : ks ≡ m .mask
-  pub subject : t ≡ subjectOf m kind who
   pub stranding : b ≡ strandsBy m kind who
 
 pub record LentRows (m : Machine) (n : ℕ) (flat ns : List ℕ) : Type 0 where

@@ -1,16 +1,13 @@
-// What an event is decided from: the task that it is about.
+// What an event is decided from: the task that it names, or that runs on the CPU that it names.
 ghost use mathlib.Core.Path.{_≡_};
 ghost use lib.ListN.{length};
 ghost use Rattle.rules.specs.Machine.{Machine, taskPlaces, row};
 ghost use Rattle.bits.specs.Moments.{old};
 ghost use Rattle.plans.specs.Decided.{asTask, firstOf};
-ghost use Rattle.deciding.specs.Subject.{entries, subjectOf, LentRows};
+ghost use Rattle.deciding.specs.Subject.{entries, LentRows};
 use plans::plan::Task;
 use runqueue::row::NOTHING;
 use runqueue::row::PLACES;
-
-// kinds up to this one name a task, later ones a CPU
-const LAST_TASK_KIND: u32 = 6;
 
 // The task's entry in every column; a number that is no task place reads as a free one.
 pub fn task_at(
@@ -48,18 +45,6 @@ pub fn task_at(
         slice: slice[at],
         mask: mask[at],
     }
-}
-
-// The task that an event is about: the one that it names (kinds 1 to 6) or the one that runs on the CPU that it names. 65535 if
-// none runs there, or there is no such CPU.
-pub fn subject(n: usize, rows: &[u16], counts: &[u16], kind: u32, who: u32) -> usize
-    requires { ⌜ ((m : Machine) × LentRows m n (now rows) (now counts)) ⌝ }
-    ensures { λ r. ⌜ ((m : Machine) → LentRows m n (old rows) (old counts) → r ≡ subjectOf m kind who) ⌝ }
-{
-    if kind <= LAST_TASK_KIND {
-        return who as usize;
-    }
-    running(n, rows, counts, who as usize) as usize
 }
 
 // The task that runs on a CPU; 65535 if none does, or there is no such CPU.

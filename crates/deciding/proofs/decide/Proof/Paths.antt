@@ -1,4 +1,4 @@
--- The places of `deciding::decide` by name, and its needs that are plumbing. Written by `scripts/paths deciding`: not to be edited.
+-- The places of `deciding::decide` by name, and its needs that are plumbing. Written by `paths deciding`: not to be edited.
 -- Assumes nothing.
 use Rattle.deciding.proofs.decide.Statement.{statement}
 use Rattle.deciding.proofs.decide.Tie as tie
@@ -24,62 +24,26 @@ at-match-keys2 c = let b = after-task-at (c .before) in record { args = b .args;
 abbrev pub after-remove : (c : tie.After-remove) → let b = at-match-keys2 (c .before) in record { args : typeOf (b .args); start : typeOf (b .start); task-at : typeOf (b .task-at); match : typeOf (b .match); remove : typeOf (c .remove) }
 after-remove c = let b = at-match-keys2 (c .before) in record { args = b .args; start = b .start; task-at = b .task-at; match = b .match; remove = c .remove }
 
-abbrev pub at-match-keys3 : (c : tie.At-match-keys3) → let b = after-task-at (c .before) in record { args : typeOf (b .args); pre : typeOf (b .pre); start : typeOf (b .start); task-at : typeOf (b .task-at); match : typeOf (c .match) }
-at-match-keys3 c = let b = after-task-at (c .before) in record { args = b .args; pre = b .pre; start = b .start; task-at = b .task-at; match = c .match }
+abbrev pub at-match-keys3 : (c : tie.At-match-keys3) → let b = after-task-at (c .before) in record { args : typeOf (b .args); start : typeOf (b .start); match : typeOf (c .match) }
+at-match-keys3 c = let b = after-task-at (c .before) in record { args = b .args; start = b .start; match = c .match }
 
-abbrev pub after-wake : (c : tie.After-wake) → let b = at-match-keys3 (c .before) in record { args : typeOf (b .args); start : typeOf (b .start); task-at : typeOf (b .task-at); match : typeOf (b .match); wake : typeOf (c .wake) }
-after-wake c = let b = at-match-keys3 (c .before) in record { args = b .args; start = b .start; task-at = b .task-at; match = b .match; wake = c .wake }
+abbrev pub after-set-ordinary : (c : tie.After-set-ordinary) → let b = at-match-keys3 (c .before) in record { args : typeOf (b .args); start : typeOf (b .start); match : typeOf (b .match); set-ordinary : typeOf (c .set-ordinary) }
+after-set-ordinary c = let b = at-match-keys3 (c .before) in record { args = b .args; start = b .start; match = b .match; set-ordinary = c .set-ordinary }
 
-abbrev pub at-match-keys4 : (c : tie.At-match-keys4) → let b = after-task-at (c .before) in record { args : typeOf (b .args); start : typeOf (b .start); task-at : typeOf (b .task-at); match : typeOf (c .match) }
-at-match-keys4 c = let b = after-task-at (c .before) in record { args = b .args; start = b .start; task-at = b .task-at; match = c .match }
+abbrev pub at-match-keys4 : (c : tie.At-match-keys4) → let b = after-task-at (c .before) in record { args : typeOf (b .args); start : typeOf (b .start); match : typeOf (c .match) }
+at-match-keys4 c = let b = after-task-at (c .before) in record { args = b .args; start = b .start; match = c .match }
 
-abbrev pub after-sleep : (c : tie.After-sleep) → let b = at-match-keys4 (c .before) in record { args : typeOf (b .args); start : typeOf (b .start); task-at : typeOf (b .task-at); match : typeOf (b .match); sleep : typeOf (c .sleep) }
-after-sleep c = let b = at-match-keys4 (c .before) in record { args = b .args; start = b .start; task-at = b .task-at; match = b .match; sleep = c .sleep }
+abbrev pub after-take-offline : (c : tie.After-take-offline) → let b = at-match-keys4 (c .before) in record { args : typeOf (b .args); start : typeOf (b .start); match : typeOf (b .match); take-offline : typeOf (c .take-offline) }
+after-take-offline c = let b = at-match-keys4 (c .before) in record { args = b .args; start = b .start; match = b .match; take-offline = c .take-offline }
 
-abbrev pub at-match-keys5 : (c : tie.At-match-keys5) → let b = after-task-at (c .before) in record { args : typeOf (b .args); start : typeOf (b .start); task-at : typeOf (b .task-at); match : typeOf (c .match) }
-at-match-keys5 c = let b = after-task-at (c .before) in record { args = b .args; start = b .start; task-at = b .task-at; match = c .match }
+abbrev pub at-match-keys5 : (c : tie.At-match-keys5) → let b = after-task-at (c .before) in record { args : typeOf (b .args); start : typeOf (b .start); match : typeOf (c .match) }
+at-match-keys5 c = let b = after-task-at (c .before) in record { args = b .args; start = b .start; match = c .match }
 
-abbrev pub after-set-priority : (c : tie.After-set-priority) → let b = at-match-keys5 (c .before) in record { args : typeOf (b .args); start : typeOf (b .start); task-at : typeOf (b .task-at); match : typeOf (b .match); set-priority : typeOf (c .set-priority) }
-after-set-priority c = let b = at-match-keys5 (c .before) in record { args = b .args; start = b .start; task-at = b .task-at; match = b .match; set-priority = c .set-priority }
+abbrev pub after-bring-online : (c : tie.After-bring-online) → let b = at-match-keys5 (c .before) in record { args : typeOf (b .args); start : typeOf (b .start); match : typeOf (b .match); bring-online : typeOf (c .bring-online) }
+after-bring-online c = let b = at-match-keys5 (c .before) in record { args = b .args; start = b .start; match = b .match; bring-online = c .bring-online }
 
-abbrev pub at-match-keys6 : (c : tie.At-match-keys6) → let b = after-task-at (c .before) in record { args : typeOf (b .args); pre : typeOf (b .pre); start : typeOf (b .start); task-at : typeOf (b .task-at); match : typeOf (c .match) }
-at-match-keys6 c = let b = after-task-at (c .before) in record { args = b .args; pre = b .pre; start = b .start; task-at = b .task-at; match = c .match }
-
-abbrev pub after-set-affinity : (c : tie.After-set-affinity) → let b = at-match-keys6 (c .before) in record { args : typeOf (b .args); start : typeOf (b .start); task-at : typeOf (b .task-at); match : typeOf (b .match); set-affinity : typeOf (c .set-affinity) }
-after-set-affinity c = let b = at-match-keys6 (c .before) in record { args = b .args; start = b .start; task-at = b .task-at; match = b .match; set-affinity = c .set-affinity }
-
-abbrev pub at-match-keys7 : (c : tie.At-match-keys7) → let b = after-task-at (c .before) in record { args : typeOf (b .args); start : typeOf (b .start); task-at : typeOf (b .task-at); match : typeOf (c .match) }
-at-match-keys7 c = let b = after-task-at (c .before) in record { args = b .args; start = b .start; task-at = b .task-at; match = c .match }
-
-abbrev pub after-tick : (c : tie.After-tick) → let b = at-match-keys7 (c .before) in record { args : typeOf (b .args); start : typeOf (b .start); task-at : typeOf (b .task-at); match : typeOf (b .match); tick : typeOf (c .tick) }
-after-tick c = let b = at-match-keys7 (c .before) in record { args = b .args; start = b .start; task-at = b .task-at; match = b .match; tick = c .tick }
-
-abbrev pub at-match-keys8 : (c : tie.At-match-keys8) → let b = after-task-at (c .before) in record { args : typeOf (b .args); start : typeOf (b .start); task-at : typeOf (b .task-at); match : typeOf (c .match) }
-at-match-keys8 c = let b = after-task-at (c .before) in record { args = b .args; start = b .start; task-at = b .task-at; match = c .match }
-
-abbrev pub after-yield-cpu : (c : tie.After-yield-cpu) → let b = at-match-keys8 (c .before) in record { args : typeOf (b .args); start : typeOf (b .start); task-at : typeOf (b .task-at); match : typeOf (b .match); yield-cpu : typeOf (c .yield-cpu) }
-after-yield-cpu c = let b = at-match-keys8 (c .before) in record { args = b .args; start = b .start; task-at = b .task-at; match = b .match; yield-cpu = c .yield-cpu }
-
-abbrev pub at-match-keys9 : (c : tie.At-match-keys9) → let b = after-task-at (c .before) in record { args : typeOf (b .args); start : typeOf (b .start); match : typeOf (c .match) }
-at-match-keys9 c = let b = after-task-at (c .before) in record { args = b .args; start = b .start; match = c .match }
-
-abbrev pub after-set-ordinary : (c : tie.After-set-ordinary) → let b = at-match-keys9 (c .before) in record { args : typeOf (b .args); start : typeOf (b .start); match : typeOf (b .match); set-ordinary : typeOf (c .set-ordinary) }
-after-set-ordinary c = let b = at-match-keys9 (c .before) in record { args = b .args; start = b .start; match = b .match; set-ordinary = c .set-ordinary }
-
-abbrev pub at-match-keys10 : (c : tie.At-match-keys10) → let b = after-task-at (c .before) in record { args : typeOf (b .args); start : typeOf (b .start); match : typeOf (c .match) }
-at-match-keys10 c = let b = after-task-at (c .before) in record { args = b .args; start = b .start; match = c .match }
-
-abbrev pub after-take-offline : (c : tie.After-take-offline) → let b = at-match-keys10 (c .before) in record { args : typeOf (b .args); start : typeOf (b .start); match : typeOf (b .match); take-offline : typeOf (c .take-offline) }
-after-take-offline c = let b = at-match-keys10 (c .before) in record { args = b .args; start = b .start; match = b .match; take-offline = c .take-offline }
-
-abbrev pub at-match-keys11 : (c : tie.At-match-keys11) → let b = after-task-at (c .before) in record { args : typeOf (b .args); start : typeOf (b .start); match : typeOf (c .match) }
-at-match-keys11 c = let b = after-task-at (c .before) in record { args = b .args; start = b .start; match = c .match }
-
-abbrev pub after-bring-online : (c : tie.After-bring-online) → let b = at-match-keys11 (c .before) in record { args : typeOf (b .args); start : typeOf (b .start); match : typeOf (b .match); bring-online : typeOf (c .bring-online) }
-after-bring-online c = let b = at-match-keys11 (c .before) in record { args = b .args; start = b .start; match = b .match; bring-online = c .bring-online }
-
-abbrev pub at-match-rest : (c : tie.At-match-rest) → let b = after-task-at (c .before) in record { args : typeOf (b .args); start : typeOf (b .start); match : typeOf (c .match) }
-at-match-rest c = let b = after-task-at (c .before) in record { args = b .args; start = b .start; match = c .match }
+abbrev pub at-match-rest : (c : tie.At-match-rest) → let b = after-task-at (c .before) in record { args : typeOf (b .args); pre : typeOf (b .pre); start : typeOf (b .start); match : typeOf (c .match) }
+at-match-rest c = let b = after-task-at (c .before) in record { args = b .args; pre = b .pre; start = b .start; match = c .match }
 
 abbrev pub task-at-requires : (c : tie.After-shared-slice-known6) → typeOf (start (c .before .before .before .before .before .before))
 task-at-requires c = start (c .before .before .before .before .before .before)
@@ -87,23 +51,11 @@ task-at-requires c = start (c .before .before .before .before .before .before)
 abbrev pub add-requires : (c : tie.At-match-keys1) → typeOf (at-match-keys1 c)
 add-requires c = at-match-keys1 c
 
-abbrev pub wake-requires : (c : tie.At-match-keys3) → typeOf (at-match-keys3 c)
-wake-requires c = at-match-keys3 c
+abbrev pub take-offline-requires : (c : tie.At-match-keys4) → typeOf (at-match-keys4 c)
+take-offline-requires c = at-match-keys4 c
 
-abbrev pub set-affinity-requires : (c : tie.At-match-keys6) → typeOf (at-match-keys6 c)
-set-affinity-requires c = at-match-keys6 c
-
-abbrev pub tick-requires : (c : tie.At-match-keys7) → typeOf (at-match-keys7 c)
-tick-requires c = at-match-keys7 c
-
-abbrev pub yield-cpu-requires : (c : tie.At-match-keys8) → typeOf (at-match-keys8 c)
-yield-cpu-requires c = at-match-keys8 c
-
-abbrev pub take-offline-requires : (c : tie.At-match-keys10) → typeOf (at-match-keys10 c)
-take-offline-requires c = at-match-keys10 c
-
-abbrev pub bring-online-requires : (c : tie.At-match-keys11) → typeOf (at-match-keys11 c)
-bring-online-requires c = at-match-keys11 c
+abbrev pub bring-online-requires : (c : tie.At-match-keys5) → typeOf (at-match-keys5 c)
+bring-online-requires c = at-match-keys5 c
 
 abbrev pub returns : (c : tie.After-add) → typeOf (after-add c)
 returns c = after-add c
@@ -111,38 +63,20 @@ returns c = after-add c
 abbrev pub returns-2 : (c : tie.After-remove) → typeOf (after-remove c)
 returns-2 c = after-remove c
 
-abbrev pub returns-3 : (c : tie.After-wake) → typeOf (after-wake c)
-returns-3 c = after-wake c
+abbrev pub returns-3 : (c : tie.After-set-ordinary) → typeOf (after-set-ordinary c)
+returns-3 c = after-set-ordinary c
 
-abbrev pub returns-4 : (c : tie.After-sleep) → typeOf (after-sleep c)
-returns-4 c = after-sleep c
+abbrev pub returns-4 : (c : tie.After-take-offline) → typeOf (after-take-offline c)
+returns-4 c = after-take-offline c
 
-abbrev pub returns-5 : (c : tie.After-set-priority) → typeOf (after-set-priority c)
-returns-5 c = after-set-priority c
+abbrev pub returns-5 : (c : tie.After-bring-online) → typeOf (after-bring-online c)
+returns-5 c = after-bring-online c
 
-abbrev pub returns-6 : (c : tie.After-set-affinity) → typeOf (after-set-affinity c)
-returns-6 c = after-set-affinity c
+abbrev pub returns-6 : (c : tie.At-match-rest) → typeOf (at-match-rest c)
+returns-6 c = at-match-rest c
 
-abbrev pub returns-7 : (c : tie.After-tick) → typeOf (after-tick c)
-returns-7 c = after-tick c
-
-abbrev pub returns-8 : (c : tie.After-yield-cpu) → typeOf (after-yield-cpu c)
-returns-8 c = after-yield-cpu c
-
-abbrev pub returns-9 : (c : tie.After-set-ordinary) → typeOf (after-set-ordinary c)
-returns-9 c = after-set-ordinary c
-
-abbrev pub returns-10 : (c : tie.After-take-offline) → typeOf (after-take-offline c)
-returns-10 c = after-take-offline c
-
-abbrev pub returns-11 : (c : tie.After-bring-online) → typeOf (after-bring-online c)
-returns-11 c = after-bring-online c
-
-abbrev pub returns-12 : (c : tie.At-match-rest) → typeOf (at-match-rest c)
-returns-12 c = at-match-rest c
-
-pub close : {M : Type 1} → tie.Need-task-at-requires → tie.Need-add-requires → tie.Need-remove-requires → tie.Need-wake-requires → tie.Need-sleep-requires → tie.Need-set-priority-requires → tie.Need-set-affinity-requires → tie.Need-tick-requires → tie.Need-yield-cpu-requires → tie.Need-set-ordinary-requires → tie.Need-take-offline-requires → tie.Need-bring-online-requires → tie.Need-returns → tie.Need-returns-2 → tie.Need-returns-3 → tie.Need-returns-4 → tie.Need-returns-5 → tie.Need-returns-6 → tie.Need-returns-7 → tie.Need-returns-8 → tie.Need-returns-9 → tie.Need-returns-10 → tie.Need-returns-11 → tie.Need-returns-12 → statement M
-close a0 a1 a2 a3 a4 a5 a6 a7 a8 a9 a10 a11 a12 a13 a14 a15 a16 a17 a18 a19 a20 a21 a22 a23 =
+pub close : {M : Type 1} → tie.Need-task-at-requires → tie.Need-add-requires → tie.Need-remove-requires → tie.Need-set-ordinary-requires → tie.Need-take-offline-requires → tie.Need-bring-online-requires → tie.Need-returns → tie.Need-returns-2 → tie.Need-returns-3 → tie.Need-returns-4 → tie.Need-returns-5 → tie.Need-returns-6 → statement M
+close a0 a1 a2 a3 a4 a5 a6 a7 a8 a9 a10 a11 =
     tie.close
     (tie.spec
     a0
@@ -156,16 +90,4 @@ close a0 a1 a2 a3 a4 a5 a6 a7 a8 a9 a10 a11 a12 a13 a14 a15 a16 a17 a18 a19 a20 
     a8
     a9
     a10
-    a11
-    a12
-    a13
-    a14
-    a15
-    a16
-    a17
-    a18
-    a19
-    a20
-    a21
-    a22
-    a23)
+    a11)
