@@ -1,11 +1,13 @@
 -- An event on tables that pass the check: what it is lent for its own effect, and what it hands back, refused or taken.
 -- Assumes nothing.
-use mathlib.Core.Path.{_≡_, refl, sym, ap, _∙_, subst}
-use mathlib.Core.Bool.{Bool, true}
+use mathlib.Core.Path.{_≡_, refl, sym, ap, _∙_, subst, subst₂}
+use mathlib.Core.Bool.{Bool, true, false, cond}
 use mathlib.Core.List.{List}
 use Prim.Native.Nat.{ℕ, zero, suc, _*_, _<_}
 use native.Mathlib.Omega.{arith}
+use lib.Dec.{eqb}
 use lib.ListN.{length}
+use borrow.Author.Tests.{eq-eqb, ne-eqb}
 use Rattle.cpupri.specs.Record.{recordOf}
 use Rattle.levels.specs.declared.record.Record.{Record}
 use Rattle.rules.specs.Machine.{Machine, taskPlaces, cpuPlaces}
@@ -26,16 +28,11 @@ use Rattle.laws.proofs.LentDemand3.{handled-lent}
 use Rattle.laws.specs.Still.{Still}
 use Rattle.laws.proofs.Settled.{handled-still, still-handled}
 use Rattle.lenttables.specs.Lent.{lent}
-use Rattle.plans.specs.Decided.{did}
-use Rattle.stranding.specs.Stranding.{strandsBy, LentMasks}
-use Rattle.deciding.specs.Subject.{subjectOf, Lent, LentRows, Decides}
-use Rattle.plans.specs.declared.plan.Decision.{Decision}
-use Rattle.plans.specs.declared.plan.Decision.the-variants.{Refused}
-use Rattle.carrying.specs.Holds.{Holds, Carriable}
-use Rattle.hinting.specs.Hinted.{Hinted}
-use Rattle.hinting.specs.Past.{Reading, Standing, pastBy, hintAfter}
-use Rattle.hinting.proofs.Events.{event-hinted, past-stands}
-use Rattle.handling.proofs.Decisions.{accepted, ready, able, refused, taken}
+use Rattle.carrying.specs.Holds.{Holds}
+use Rattle.effect.specs.Effected.{Lends, Effected}
+use Rattle.effect.specs.declared.Effect.{Effect}
+use Rattle.hinting.specs.Hinted.{knownIf, Hinted}
+use Rattle.hinting.specs.declared.hint.Hint.{Hint}
 use Rattle.placement.proofs.Order.{well-formed-order}
 use Rattle.migration.specs.Settling.{Settling, Ended}
 
@@ -91,6 +88,15 @@ handed n r s e a k q t is good = (is, (good, (λ z. back (handled-still n r s e 
 pub record Passed (n : ℕ) (r : Record) (s : Tables) : Type 0 where
   pub checks : checked n r s ≡ 0
 
+-- ---- the event was accepted and its own effect left the tables t and the record q
+
+pub record Carried (n : ℕ) (r : Record) (s : Tables) (e : Event) (t : Tables) (q : Record) : Type 0 where
+  pub passed : Passed n r s
+  pub takes : refusal (machineOf n s) e ≡ 0
+  pub full : t .full ≡ s .full
+  pub log : t .log ≡ s .log
+  pub done : Holds (effect e (machineOf n s)) (t .state) (t .policy) (t .prio) (t .cpu) (t .slice) (t .mask) (t .rows) (t .counts) (t .flags) (t .online) q
+
 module _ {n : ℕ} {r : Record} {s : Tables} (h : Passed n r s) where
   abbrev before : Machine
   before = machineOf n s
@@ -121,87 +127,70 @@ module _ {n : ℕ} {r : Record} {s : Tables} (h : Passed n r s) where
         levels = good .levels;
       }
 
-  pub lent-rows : LentRows (machineOf n s) n (s .rows) (s .counts)
-  lent-rows = record { formed = good .machine; cpus = refl; rows = holds .rows; counts = holds .counts }
+  pub lends : Lends (machineOf n s) (s .state) (s .policy) (s .prio) (s .cpu) (s .slice) (s .mask) (s .rows) (s .counts) (s .flags) (s .online) r
+  lends = record { formed = good .machine; holds = holds }
 
-  pub lent-masks : LentMasks (machineOf n s) n (s .online) (s .mask) (s .rows) (s .counts)
-  lent-masks = record { formed = good .machine; cpus = refl; online = refl; mask = refl; rows = holds .rows; counts = holds .counts }
+  -- ---- what the event's own effect left
 
-  pub lent-columns : (kind who : ℕ) {t : ℕ} {b : Bool} → t ≡ subjectOf (machineOf n s) kind who → b ≡ strandsBy (machineOf n s) kind who
-      → Lent (machineOf n s) n (s .online) (s .full) (s .state) (s .policy) (s .prio) (s .cpu) (s .slice) (s .mask) t b kind who
-  lent-columns kind who e st =
-      record {
-        formed = good .machine;
-        cpus = refl;
-        online = refl;
-        ticks = refl;
-        state = refl;
-        policy = refl;
-        prio = refl;
-        cpu = refl;
-        slice = refl;
-        mask = refl;
-        subject = e;
-        stranding = st;
-      }
-
-  pub reading : Reading (machineOf n s) (s .cpu) (s .rows) (r .levels)
-  unfolding recordOf
-  reading = record { well = good .machine; cpu = refl; rows = holds .rows; levels = ap (λ (q : Record). q .levels) (good .levels) }
-
-  -- ---- the decision
-
-  module _ (e : Event) {d : Decision} (right : Decides (machineOf n s) e d) where
-    pub carriable : Carriable (machineOf n s) (s .state) (s .policy) (s .prio) (s .cpu) (s .slice) (s .mask) (s .rows) (s .counts) (s .flags) (s .online) r d
-    carriable = record { formed = good .machine; holds = holds; ready = ready before e d right }
-
+  module _ (e : Event) {o : Effect} {t : Tables} {q : Record}
+      (own : Effected (machineOf n s) e o (t .state) (t .policy) (t .prio) (t .cpu) (t .slice) (t .mask) (t .rows) (t .counts) (t .flags) (t .online) q)
+      (full : t .full ≡ s .full) (log : t .log ≡ s .log) where
     -- refused: nothing was written
-    pub refused-result : {a : ℕ} → d ≡ Refused a → Handed n r s e a 0 r s
-    refused-result {a} is = handed n r s e a 0 r s (go a refl (refused before e a (subst (Decides before e) is right))) (h .checks)
+    pub refused-result : (o .answer ≡ 0 → ⊥) → Handed n r s e (o .answer) 0 q t
+    refused-result z =
+        subst₂ (λ (x : Record) (y : Tables). Handed n r s e (o .answer) 0 x y) (holds .levels ∙ sym (stays .levels)) (sym same)
+        (handed n r s e (o .answer) 0 r s (go (o .answer) refl) (h .checks))
       where
-        go : (b : ℕ) → a ≡ b → (a ≡ refusal before e) × (a ≡ 0 → ⊥) → result a 0 r s ≡ handled n r s e
-        go zero x f = absurd (f .1 x)
-        go (suc b) x f =
+        stays : Holds before (t .state) (t .policy) (t .prio) (t .cpu) (t .slice) (t .mask) (t .rows) (t .counts) (t .flags) (t .online) q
+        stays =
+            subst (λ (b : Bool). Holds (cond b (effect e before) before) (t .state) (t .policy) (t .prio) (t .cpu) (t .slice) (t .mask) (t .rows) (t .counts) (t .flags) (t .online) q)
+            (ne-eqb (refusal before e) 0 (λ y. z (own .answer ∙ y))) (own .holds)
+
+        same : t ≡ s
+        same =
+            same-tables t s
+            (record {
+              full = full;
+              state = stays .state;
+              policy = stays .policy;
+              prio = stays .prio;
+              cpu = stays .cpu;
+              slice = stays .slice;
+              mask = stays .mask;
+              rows = stays .rows ∙ sym (holds .rows);
+              counts = stays .counts ∙ sym (holds .counts);
+              flags = stays .flags;
+              online = stays .online;
+              log = log;
+            })
+
+        go : (b : ℕ) → o .answer ≡ b → result (o .answer) 0 r s ≡ handled n r s e
+        go zero x = absurd (z x)
+        go (suc b) x =
             ap (λ (k : ℕ). kept k r s) x
-            ∙ sym (handled-refused n r s e b (answer-event n r s e (h .checks) ∙ sym (f .0) ∙ x))
+            ∙ sym (handled-refused n r s e b (answer-event n r s e (h .checks) ∙ sym (own .answer) ∙ x))
 
-  -- what was read before the effect can be looked up after it, and gives a true hint
-  module _ (e : Event) (d : Decision) (right : Decides (machineOf n s) e d) (z : accepted d ≡ true) (settled : Bool) where
-    ok : (refusal before e ≡ 0) × (did d before ≡ effect e before)
-    ok = taken before e d right z
+    pub carries : o .answer ≡ 0 → Carried n r s e t q
+    carries z =
+        record {
+          passed = h;
+          takes = sym (own .answer) ∙ z;
+          full = full;
+          log = log;
+          done =
+              subst (λ (b : Bool). Holds (cond b (effect e before) before) (t .state) (t .policy) (t .prio) (t .cpu) (t .slice) (t .mask) (t .rows) (t .counts) (t .flags) (t .online) q)
+              (eq-eqb (refusal before e) 0 (sym (own .answer) ∙ z)) (own .holds);
+        }
 
-    pub stands : Standing (effect e (machineOf n s)) (pastBy settled (machineOf n s) d)
-    stands =
-        past-stands settled before (effect e before) d (good .machine)
-        (start-n n r s e (answer-event n r s e (h .checks) ∙ ok .0)) (able before e d right)
+    -- and the hint that it gives is true
+    pub hinted : o .answer ≡ 0 → (settled : Bool) → (settled ≡ true → Still n s) → {x : Hint} → x ≡ knownIf settled (o .fallen) (o .new) → Hinted (effect e (machineOf n s)) x
+    hinted z settled calm is = subst (Hinted (effect e before)) (sym is) (go settled calm)
+      where
+        go : (b : Bool) → (b ≡ true → Still n s) → Hinted (effect e before) (knownIf b (o .fallen) (o .new))
+        go true c = own .few (sym (own .answer) ∙ z) (c refl)
+        go false c = tt
 
-    pub hints : (settled ≡ true → Still n s) → Hinted (effect e (machineOf n s)) (hintAfter (pastBy settled (machineOf n s) d) (effect e (machineOf n s)))
-    hints calm =
-        subst (λ (m : Machine). Hinted m (hintAfter (pastBy settled before d) m)) (ok .1)
-        (event-hinted settled before d (good .machine) calm (able before e d right)
-        (subst WellFormed (sym (ok .1)) (keep-effect before e (good .machine) (ok .0))))
-
--- ---- the event was accepted and its own effect left the tables t and the record q
-
-pub record Carried (n : ℕ) (r : Record) (s : Tables) (e : Event) (t : Tables) (q : Record) : Type 0 where
-  pub passed : Passed n r s
-  pub takes : refusal (machineOf n s) e ≡ 0
-  pub full : t .full ≡ s .full
-  pub log : t .log ≡ s .log
-  pub done : Holds (effect e (machineOf n s)) (t .state) (t .policy) (t .prio) (t .cpu) (t .slice) (t .mask) (t .rows) (t .counts) (t .flags) (t .online) q
-
-pub carries : {n : ℕ} {r : Record} {s : Tables} (e : Event) {t : Tables} {q : Record} (d : Decision) → Passed n r s
-    → Decides (machineOf n s) e d → accepted d ≡ true → t .full ≡ s .full → t .log ≡ s .log → Holds (did d (machineOf n s)) (t .state) (t .policy) (t .prio) (t .cpu) (t .slice) (t .mask) (t .rows) (t .counts) (t .flags) (t .online) q
-    → Carried n r s e t q
-carries {n} {r} {s} e {t} {q} d h right z full log done =
-    let ok : (refusal (machineOf n s) e ≡ 0) × (did d (machineOf n s) ≡ effect e (machineOf n s)) = taken (machineOf n s) e d right z in
-    record {
-      passed = h;
-      takes = ok .0;
-      full = full;
-      log = log;
-      done = subst (λ (m : Machine). Holds m (t .state) (t .policy) (t .prio) (t .cpu) (t .slice) (t .mask) (t .rows) (t .counts) (t .flags) (t .online) q) (ok .1) done;
-    }
+-- ---- the steps after it
 
 module _ {n : ℕ} {r : Record} {s : Tables} {e : Event} {t : Tables} {q : Record} (h : Carried n r s e t q) where
   abbrev start : Machine
@@ -245,10 +234,6 @@ module _ {n : ℕ} {r : Record} {s : Tables} {e : Event} {t : Tables} {q : Recor
         cpus = h .done .cpu;
         masks = h .done .mask;
       }
-
-  pub start-reading : Reading (effect e (machineOf n s)) (t .cpu) (t .rows) (q .levels)
-  unfolding recordOf
-  start-reading = record { well = well; cpu = h .done .cpu; rows = h .done .rows; levels = ap (λ (x : Record). x .levels) (h .done .levels) }
 
   pub start-cpus : n ≡ effect e (machineOf n s) .n
   start-cpus = sym (start-n n r s e accepted-is)

@@ -1,3 +1,2 @@
 -- The laws of an event on lent tables.
-pub mod Decisions
 pub mod Handling

@@ -6,17 +6,13 @@ ghost use Rattle.rules.specs.Entry.{result, checked, handled};
 ghost use Rattle.rules.specs.Events.{event as numbers};
 ghost use Rattle.laws.specs.Still.{Still};
 ghost use Rattle.lenttables.specs.Lent.{nowTables, oldTables, newTables};
-use carrying::carry_out;
 use cpupri::record::CPUS;
 use cpupri::record::LEVELS;
 use cpupri::record::WORDS;
-use deciding::decide;
-use deciding::read::subject;
-use hinting::past::hint;
-use hinting::past::remember;
+use dispatch::effect;
+use hinting::hint::known;
 use migration::settle::settle;
-use plans::plan::Decision;
-use stranding::strands;
+use rules::answer::ACCEPTED;
 
 // The answer to an event: 0 and the number of moves, or a refusal with 0 moves, which changes nothing.
 pub struct Handled {
@@ -63,35 +59,9 @@ pub fn handle(
         ∗ ⌜ (o .answer ≡ 0 → Still n t) ⌝
         ∗ ⌜ (Still n s → Still n t) ⌝ }
 {
-    let up = *online;
-    let at = subject(n, rows, counts, kind, who);
-    let stranding = strands(n, up, mask, rows, counts, kind, who);
-    let decision = decide(
+    let own = effect(
         n,
-        up,
         full,
-        state,
-        policy,
-        prio,
-        cpu,
-        slice,
-        mask,
-        at,
-        stranding,
-        kind,
-        who,
-        a,
-        b,
-        k,
-    );
-    if let Decision::Refused(number) = decision {
-        return Handled {
-            answer: number,
-            moves: 0,
-        };
-    }
-    let past = remember(settled, decision, cpu, rows, levels);
-    carry_out(
         state,
         policy,
         prio,
@@ -106,11 +76,21 @@ pub fn handle(
         tallies,
         words,
         levels,
-        decision,
+        kind,
+        who,
+        a,
+        b,
+        k,
     );
-    let few = hint(past, state, cpu, rows, levels);
+    if own.answer != ACCEPTED {
+        return Handled {
+            answer: own.answer,
+            moves: 0,
+        };
+    }
+    let hint = known(settled, own.fallen, own.new);
     let steps = settle(
-        few,
+        hint,
         n,
         prio,
         cpu,

@@ -29,6 +29,10 @@ abbrev pub Hinted : Machine → Hint → Type 0
 Hinted m Unknown = Unit {0}
 Hinted m (Few fallen new) = Among m (candidates fallen new)
 
+-- these candidates, if the machine was settled before
+abbrev pub knownIf : Bool → ℕ → ℕ → Hint
+knownIf settled fallen new = cond settled (Few fallen new) Unknown
+
 -- there is no candidate
 abbrev pub nobodyIn : Candidates → Bool
 nobodyIn few = leb cpuPlaces (few .fallen) && eqb (few .new) nothing

@@ -4,7 +4,7 @@ ghost use Prim.Native.Nat.{_*_, _<_};
 ghost use lib.ListN.{length, getD};
 ghost use Rattle.bits.specs.Moments.{old};
 ghost use Rattle.rules.specs.Machine.{taskPlaces, cpuPlaces};
-ghost use Rattle.hinting.specs.Hinted.{nobodyIn, candidatesAfter};
+ghost use Rattle.hinting.specs.Hinted.{knownIf, nobodyIn, candidatesAfter};
 use cpupri::record::CPUS;
 use runqueue::row::NOTHING;
 use runqueue::row::PLACES;
@@ -20,6 +20,16 @@ pub enum Hint {
 pub struct Candidates {
     pub fallen: usize,
     pub new: u16,
+}
+
+// What is known of a machine on which these alone can move, if it was settled before.
+pub fn known(settled: bool, fallen: usize, new: u16) -> Hint
+    ensures { λ h. ⌜ h ≡ knownIf settled fallen new ⌝ }
+{
+    if !settled {
+        return Hint::Unknown;
+    }
+    Hint::Few { fallen, new }
 }
 
 // Whether it is known that no task can move.
