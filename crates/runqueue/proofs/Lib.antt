@@ -2,4 +2,5 @@
 pub mod Places
 pub mod Shift
 pub mod Queued
+pub mod Below
 pub mod Flat

@@ -1,17 +1,17 @@
 -- A row place by place: where a task stands, and what stands where after one leaves or enters.
 -- Assumes nothing.
 use mathlib.Core.Path.{_≡_, refl, sym, ap, _∙_}
-use mathlib.Core.Bool.{Bool, true, false, cond}
+use mathlib.Core.Bool.{Bool, true, false, cond, _||_}
 use mathlib.Core.Logic.{_≢_, _⊎_, inl, inr}
 use mathlib.Core.List.{List, [], _∷_, _++_}
 use Prim.Native.Nat.{ℕ, zero, suc, _+_, _-_, _≤_, _<_, zero-le, suc-le-suc}
 use native.Mathlib.Nat.{not-suc-le-zero, le-of-suc-le-suc, zero-lt-suc}
 use native.Mathlib.Omega.{arith}
 use lib.Dec.{eqb, leb}
-use lib.ListN.{length, getD, replicate, getD-replicate, List·getD-append}
+use lib.ListN.{length, getD, take, replicate, getD-replicate, List·getD-append}
 use lib.Seq.{getD-append-add}
 use borrow.Author.Tests.{eqb-false, leb-true, leb-false}
-use Rattle.rules.specs.Lists.{In, place, insertBefore, delete}
+use Rattle.rules.specs.Lists.{In, any, place, insertBefore, delete}
 use Rattle.rules.specs.Machine.{taskPlaces}
 use Rattle.rules.specs.Tables.{nothing, padded}
 use Rattle.laws.proofs.Lists.{in-cons}
@@ -30,6 +30,21 @@ place-before x (y ∷ ys) k h e = go (eqb x y) refl k h e (place-before x ys)
     go true t k l e rest = not-suc-le-zero l
     go false t zero l e rest = eqb-false x y t (sym e)
     go false t (suc k) l e rest = rest k (le-of-suc-le-suc l) e
+
+-- whether one of the first places passes a test, with one place more
+pub any-more : (p : ℕ → Bool) (xs : List ℕ) (i : ℕ) → i < length xs → any p (take (suc i) xs) ≡ (any p (take i xs) || p (getD xs i 0))
+unfolding any
+any-more p [] i h = absurd (not-suc-le-zero h)
+any-more p (x ∷ xs) zero h = or-false (p x)
+  where
+    or-false : (b : Bool) → (b || false) ≡ b
+    or-false true = refl
+    or-false false = refl
+any-more p (x ∷ xs) (suc i) h = go (p x) (any-more p xs i (le-of-suc-le-suc h))
+  where
+    go : (b : Bool) → any p (take (suc i) xs) ≡ (any p (take i xs) || p (getD xs i 0)) → (b || any p (take (suc i) xs)) ≡ ((b || any p (take i xs)) || p (getD xs i 0))
+    go true e = refl
+    go false e = e
 
 -- ---- after it leaves
 

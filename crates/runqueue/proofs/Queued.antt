@@ -2,21 +2,24 @@
 -- Assumes nothing.
 use mathlib.Core.Path.{_≡_, refl, sym, ap, _∙_}
 use mathlib.Core.Bool.{Bool, true, false}
+use mathlib.Core.Logic.{_≢_}
 use mathlib.Core.List.{List}
-use Prim.Native.Nat.{ℕ, zero, suc, _≤_, _<_}
+use Prim.Native.Nat.{ℕ, zero, suc, _+_, _-_, _≤_, _<_}
+use native.Mathlib.Nat.{le-antisymm}
 use native.Mathlib.Omega.{arith}
-use lib.Dec.{ltb}
-use lib.ListN.{length, getD, set, take, length-set}
-use lib.Seq.{ext-getD, getD-take}
-use borrow.Author.Tests.{ltb-true, ltb-false}
-use Rattle.rules.specs.Lists.{In, place, insertBefore, delete}
+use lib.Arith.{lt-of-le-ne}
+use lib.Dec.{eqb, ltb, leb}
+use lib.ListN.{length, getD, set, take, drop, length-set, length-drop}
+use lib.Seq.{ext-getD, getD-take, getD-drop, length-take-le}
+use borrow.Author.Tests.{eqb-false, ltb-true, ltb-false, leb-true, leb-false}
+use Rattle.rules.specs.Lists.{In, any, place, insertBefore, delete}
 use Rattle.rules.specs.Machine.{taskPlaces}
 use Rattle.rules.specs.Tables.{nothing, padded}
-use Rattle.laws.proofs.Lists.{length-delete, length-insert}
-use Rattle.laws.proofs.Order.{place-lt}
+use Rattle.laws.proofs.Lists.{any-none, in-getD, length-delete, length-insert}
+use Rattle.laws.proofs.Order.{place-lt, place-is}
 use Rattle.laws.proofs.Tables.{length-padded}
-use Rattle.runqueue.specs.Row.{HoldsRow, Closed, Opened, ahead}
-use Rattle.runqueue.proofs.Places.{delete-before, delete-after, insert-before, insert-at, insert-after, ahead-le, padded-in, padded-out}
+use Rattle.runqueue.specs.Row.{HoldsRow, Closed, Opened, block, ahead}
+use Rattle.runqueue.proofs.Places.{place-le, delete-before, delete-after, insert-before, insert-at, insert-after, ahead-le, padded-in, padded-out}
 use Rattle.runqueue.proofs.Shift.{stored}
 
 module _ (count : ℕ) (xs : List ℕ) (held : HoldsRow count xs) where
@@ -33,6 +36,31 @@ module _ (count : ℕ) (xs : List ℕ) (held : HoldsRow count xs) where
   module _ (task : ℕ) (i : In task (take count xs)) where
     pub place-below : place task (take count xs) < count
     place-below = omega (arith, place-lt task (take count xs) i, held .counted)
+
+    at-place : getD xs (place task (take count xs)) 0 ≡ task
+    at-place = in-queue (place task (take count xs)) place-below ∙ place-is task (take count xs) i
+
+    -- it does not stand earlier than this place: it stands here, or later, or behind this block
+    pub stands-here : (at : ℕ) → at ≤ place task (take count xs) → getD xs at 0 ≡ task → at ≡ place task (take count xs)
+    stands-here at h e = le-antisymm h (place-le task (take count xs) at (sym (in-queue at (omega (arith, place-below))) ∙ e))
+
+    pub stands-later : (at : ℕ) → at ≤ place task (take count xs) → getD xs at 0 ≢ task → at < place task (take count xs)
+    stands-later at h d = lt-of-le-ne h (λ e. d (ap (λ (k : ℕ). getD xs k 0) e ∙ at-place))
+
+    pub stands-behind : (from : ℕ) → from ≤ place task (take count xs) → from + block ≤ length xs → any (λ u. eqb u task) (take block (drop from xs)) ≡ false
+        → from + block ≤ place task (take count xs)
+    stands-behind from h l none = go (leb (from + block) (place task (take count xs))) refl
+      where
+        go : (b : Bool) → leb (from + block) (place task (take count xs)) ≡ b → from + block ≤ place task (take count xs)
+        go true t = leb-true _ _ t
+        go false t =
+            let inside : place task (take count xs) < from + block = leb-false _ _ t in
+            let k : ℕ = place task (take count xs) - from in
+            let same : from + k ≡ place task (take count xs) = omega arith in
+            let size : length (take block (drop from xs)) ≡ block = length-take-le block (drop from xs) (omega (arith, length-drop from xs)) in
+            let here : getD (take block (drop from xs)) k 0 ≡ task =
+            getD-take block (drop from xs) k 0 (omega arith) ∙ getD-drop from xs k 0 ∙ ap (λ (j : ℕ). getD xs j 0) same ∙ at-place in
+            absurd (eqb-false _ task (any-none (λ u. eqb u task) (take block (drop from xs)) none _ (in-getD (take block (drop from xs)) k (omega arith))) here)
 
     left-size : suc (length (delete task (take count xs))) ≡ count
     left-size = length-delete task (take count xs) i ∙ held .counted

@@ -1,80 +1,100 @@
--- `runqueue::row::position` meets its contract. The loop's invariant: the task does not stand earlier. Assumes nothing.
-use mathlib.Core.Path.{_≡_, refl, sym, ap, _∙_}
-use Prim.Native.Nat.{ℕ, _-_, _≤_, _<_}
-use native.Mathlib.Omega.{arith}
-use mathlib.Core.List.{List}
+-- `runqueue::row::position` meets its contract: the task does not stand at the places that were asked before. Assumes nothing.
+use mathlib.Core.Path.{_≡_}
 use mathlib.Core.Logic.{_≢_}
-use native.Mathlib.Nat.{le-antisymm}
-use lib.Arith.{lt-of-le-ne}
-use lib.ListN.{length, getD, take, length-take}
-use lib.Seq.{getD-take}
-use lib.Dec.{leb}
-use Rattle.rules.specs.Lists.{In, place}
-use Rattle.laws.proofs.Order.{place-lt, place-is}
-use Rattle.runqueue.proofs.Places.{place-before}
+use Prim.Native.Nat.{ℕ, _≤_, _<_, zero-le}
+use native.Mathlib.Omega.{arith}
+use lib.ListN.{length, getD, take}
+use Rattle.rules.specs.Lists.{place}
+use Rattle.runqueue.proofs.Queued.{row-size, stands-here, stands-later}
 use Rattle.runqueue.proofs.row.position.Statement.{statement}
 use Rattle.runqueue.proofs.row.position.Tie as tie
 use Rattle.runqueue.proofs.row.position.Proof.Paths as known
 mod Paths
 
--- the place is within the count, and within the row
-within : (row : List ℕ) (count task : ℕ) → count ≤ length row → In task (take count row) → (place task (take count row) < count) × (place task (take count row) < length row)
-within row count task h i =
-    let size : length (take count row) ≤ count = omega (arith, length-take count row) in
-    let p : place task (take count row) < length (take count row) = place-lt task (take count row) i in
-    (omega arith, omega arith)
+module _ (c : tie.Start) where
+  abbrev stands : ℕ
+  stands = place (c .args .task) (take (c .args .count) (c .args .row .now))
 
-stop : (task : ℕ) (xs : List ℕ) (at : ℕ) → at ≤ place task xs → getD xs at 0 ≡ task → at ≡ place task xs
-stop task xs at h e = le-antisymm h (go (leb (place task xs) at) refl)
-  where
-    go : (b : mathlib.Core.Bool.Bool) → leb (place task xs) at ≡ b → place task xs ≤ at
-    go mathlib.Core.Bool.true t = borrow.Author.Tests.leb-true (place task xs) at t
-    go mathlib.Core.Bool.false t = absurd (place-before task xs at (borrow.Author.Tests.leb-false (place task xs) at t) e)
+  size : length (c .args .row .now) ≡ 512
+  size = row-size (c .args .count) (c .args .row .now) (c .pre .0)
 
-abbrev Inv-loop : tie.InvT-loop
-Inv-loop row count task at₀ at = at ≤ place task (take count row)
+  here : (at : ℕ) → at ≤ stands → getD (c .args .row .now) at 0 ≡ c .args .task → at ≡ stands
+  here = stands-here (c .args .count) (c .args .row .now) (c .pre .0) (c .args .task) (c .pre .1)
 
-abbrev μ-loop : tie.MeasureT-loop
-μ-loop row count task at₀ at = place task (take count row) - at
+  later : (at : ℕ) → at ≤ stands → getD (c .args .row .now) at 0 ≢ c .args .task → at < stands
+  later = stands-later (c .args .count) (c .args .row .now) (c .pre .0) (c .args .task) (c .pre .1)
 
--- the task is not at this place, so it stands later
-later : (c : tie.Then1 Inv-loop μ-loop) → let k = known.then1 c in k .loop .at < place (k .args .task) (take (k .args .count) (k .args .row .now))
-later c =
-    let p = known.then1 c in
-    let a = p .args in
-    let at = p .loop .at in
-    let xs = take (a .count) (a .row .now) in
-    let in-reach = within (a .row .now) (a .count) (a .task) (p .pre .0) (p .pre .1) in
-    let differs : at ≢ place (a .task) xs =
-    λ e. p .if1 .taken (sym (getD-take (a .count) (a .row .now) at 0 (omega arith)) ∙ ap (λ (k : ℕ). getD xs k 0) e ∙ place-is (a .task) xs (p .pre .1)) in
-    lt-of-le-ne (p .loop .inv) differs
+past-1 : (c : tie.Else1) → 1 ≤ stands (known.else1 c .start)
+past-1 c = let k = known.else1 c in later (k .start) 0 zero-le (k .if1 .left)
 
-loop-holds : tie.Need-loop-holds Inv-loop μ-loop
-loop-holds c = omega arith
+past-2 : (c : tie.Else2) → 2 ≤ stands (known.else2 c .start)
+past-2 c = let k = known.else2 c in later (k .start) 1 (past-1 (k .else1)) (k .if2 .left)
 
-mul-if1 : tie.Need-mul-if1 Inv-loop μ-loop
-mul-if1 c = let k = known.mul-if1 c in let s = within (k .args .row .now) (k .args .count) (k .args .task) (k .pre .0) (k .pre .1) in omega arith
+past-3 : (c : tie.Else3) → 3 ≤ stands (known.else3 c .start)
+past-3 c = let k = known.else3 c in later (k .start) 2 (past-2 (k .else2)) (k .if3 .left)
 
-shared-slice-read-if1 : tie.Need-shared-slice-read-if1 Inv-loop μ-loop
-shared-slice-read-if1 c = let k = known.shared-slice-read-if1 c in let s = within (k .args .row .now) (k .args .count) (k .args .task) (k .pre .0) (k .pre .1) in omega arith
+past-4 : (c : tie.Else4) → 4 ≤ stands (known.else4 c .start)
+past-4 c = let k = known.else4 c in later (k .start) 3 (past-3 (k .else3)) (k .if4 .left)
 
-add-at : tie.Need-add-at Inv-loop μ-loop
-add-at c = let k = known.add-at c in let s = within (k .args .row .now) (k .args .count) (k .args .task) (k .pre .0) (k .pre .1) in omega arith
+past-5 : (c : tie.Else5) → 5 ≤ stands (known.else5 c .start)
+past-5 c = let k = known.else5 c in later (k .start) 4 (past-4 (k .else4)) (k .if5 .left)
 
-loop-less : tie.Need-loop-less Inv-loop μ-loop
-loop-less c = let s = later c in omega arith
+shared-slice-read-if1 : tie.Need-shared-slice-read-if1
+shared-slice-read-if1 c = let k = known.shared-slice-read-if1 c in omega (arith, size (k .start))
 
-loop-again : tie.Need-loop-again Inv-loop μ-loop
-loop-again c = let s = later c in omega arith
+returns : tie.Need-returns
+returns c = let k = known.returns c in here (k .start) 0 zero-le (k .if1 .taken)
 
-returns : tie.Need-returns Inv-loop μ-loop
-returns c =
-    let k = known.returns c in
-    let a = k .args in
-    let at = k .loop .at in
-    let xs = take (a .count) (a .row .now) in
-    let in-reach = within (a .row .now) (a .count) (a .task) (k .pre .0) (k .pre .1) in
-    stop (a .task) xs at (k .loop .inv) (getD-take (a .count) (a .row .now) at 0 (omega arith) ∙ k .if1 .left)
+shared-slice-read-if2 : tie.Need-shared-slice-read-if2
+shared-slice-read-if2 c = let k = known.shared-slice-read-if2 c in omega (arith, size (k .start))
+
+returns-2 : tie.Need-returns-2
+returns-2 c = let k = known.returns-2 c in here (k .start) 1 (past-1 (k .else1)) (k .if2 .taken)
+
+shared-slice-read-if3 : tie.Need-shared-slice-read-if3
+shared-slice-read-if3 c = let k = known.shared-slice-read-if3 c in omega (arith, size (k .start))
+
+returns-3 : tie.Need-returns-3
+returns-3 c = let k = known.returns-3 c in here (k .start) 2 (past-2 (k .else2)) (k .if3 .taken)
+
+shared-slice-read-if4 : tie.Need-shared-slice-read-if4
+shared-slice-read-if4 c = let k = known.shared-slice-read-if4 c in omega (arith, size (k .start))
+
+returns-4 : tie.Need-returns-4
+returns-4 c = let k = known.returns-4 c in here (k .start) 3 (past-3 (k .else3)) (k .if4 .taken)
+
+shared-slice-read-if5 : tie.Need-shared-slice-read-if5
+shared-slice-read-if5 c = let k = known.shared-slice-read-if5 c in omega (arith, size (k .start))
+
+returns-5 : tie.Need-returns-5
+returns-5 c = let k = known.returns-5 c in here (k .start) 4 (past-4 (k .else4)) (k .if5 .taken)
+
+shared-slice-read-if6 : tie.Need-shared-slice-read-if6
+shared-slice-read-if6 c = let k = known.shared-slice-read-if6 c in omega (arith, size (k .start))
+
+returns-6 : tie.Need-returns-6
+returns-6 c = let k = known.returns-6 c in here (k .start) 5 (past-5 (k .else5)) (k .if6 .taken)
+
+far-position-requires : tie.Need-far-position-requires
+far-position-requires c κs = let k = known.far-position-requires c in k .pre
+
+returns-7 : tie.Need-returns-7
+returns-7 c = let k = known.returns-7 c in k .far-position .ensures
 
 pub position-spec : {M : Type 1} → statement M
-position-spec = known.close Inv-loop μ-loop loop-holds mul-if1 shared-slice-read-if1 add-at loop-less loop-again returns
+position-spec =
+    known.close
+    shared-slice-read-if1
+    returns
+    shared-slice-read-if2
+    returns-2
+    shared-slice-read-if3
+    returns-3
+    shared-slice-read-if4
+    returns-4
+    shared-slice-read-if5
+    returns-5
+    shared-slice-read-if6
+    returns-6
+    far-position-requires
+    returns-7

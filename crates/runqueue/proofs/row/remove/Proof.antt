@@ -10,11 +10,7 @@ use Rattle.runqueue.proofs.row.remove.Proof.Paths as at
 mod Paths
 
 position-requires : tie.Need-position-requires
-position-requires c κs =
-    let k = at.position-requires c in
-    let a = k .args in
-    let p = k .pre in
-    (omega (arith, row-size (a .count) (a .row .now) (p .0), p .0 .most), p .1)
+position-requires c κs = let k = at.position-requires c in k .pre
 
 shift-down-requires : tie.Need-shift-down-requires
 shift-down-requires c κs =
