@@ -33,8 +33,7 @@ shared-slice-read-result c =
     let k = at.shared-slice-read-result c in omega (arith, k .pre .tasks (k .args .at - 1) (omega arith), k .pre .prios)
 
 returns-2 : tie.Need-returns-2
-returns-2 c =
-    record { yes = λ e h. leb-true _ _ e; no = λ e. (omega arith, leb-false _ _ e) }
+returns-2 c = record { no = λ e. (omega arith, leb-false _ _ e); yes = λ e h. leb-true _ _ e }
 
 pub ends-at-spec : {M : Type 1} → statement M
 ends-at-spec = at.close returns sub-last mul-last shared-slice-read-last cast-last shared-slice-read-result returns-2
