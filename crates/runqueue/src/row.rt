@@ -54,8 +54,8 @@ pub fn entry_key(front: bool, priority: u8) -> u8
     priority
 }
 
-// Where the task stands in the row. The first places are asked one by one, and written out: so the compiler takes a long row for
-// rare, and short ones pay nothing for it.
+// Where the task stands in the row. The first places are asked one by one, written out: after six such branches the compiler takes
+// the search of a long row for rare and leaves it a call, and with more it would no longer inline this where tasks leave.
 fn position(row: &[u16], count: usize, task: u16) -> usize
     requires { ⌜ HoldsRow count (now row) ⌝ }
     requires { ⌜ In task (take count (now row)) ⌝ }

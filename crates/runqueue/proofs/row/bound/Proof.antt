@@ -1,5 +1,4 @@
 -- `runqueue::row::bound` meets its contract. Assumes nothing.
-use borrow.Author.Needs.{needs}
 use native.Mathlib.Omega.{arith}
 use Rattle.runqueue.proofs.Below.{ordered-first, not-ended, lower-end, lower-both}
 use Rattle.runqueue.proofs.row.bound.Statement.{statement}

@@ -1,6 +1,4 @@
 -- `runqueue::row::halve` meets its contract. Assumes nothing.
-use borrow.Author.Needs.{needs}
-use Prim.Native.Nat.{_+_, _-_, _/_}
 use native.Mathlib.Omega.{arith}
 use Rattle.runqueue.proofs.Below.{ordered-first, not-ended, lower-later}
 use Rattle.runqueue.proofs.row.halve.Statement.{statement}

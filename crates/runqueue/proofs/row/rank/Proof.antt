@@ -1,5 +1,4 @@
 -- `runqueue::row::rank` meets its contract. The loop's invariant: the tasks from `at` on are below the key. Assumes nothing.
-use Prim.Native.Nat.{_-_}
 use native.Mathlib.Omega.{arith}
 use borrow.Author.Tests.{not-true, not-false}
 use Rattle.runqueue.specs.Row.{Ordered, LowerFrom}

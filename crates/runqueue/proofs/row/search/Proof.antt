@@ -1,5 +1,5 @@
 -- `runqueue::row::search` meets its contract. The loop's invariant: those behind the part that is left are below the key. Assumes nothing.
-use Prim.Native.Nat.{_+_, _-_, _/_}
+use Prim.Native.Nat.{_+_}
 use native.Mathlib.Omega.{arith}
 use Rattle.runqueue.specs.Row.{LowerFrom}
 use Rattle.runqueue.proofs.Below.{lower-end, lower-later}
