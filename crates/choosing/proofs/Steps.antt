@@ -11,13 +11,13 @@ use native.Mathlib.Omega.{arith}
 use lib.Dec.{eqb, ltb}
 use lib.ListN.{length, getD, set}
 use lib.Seq.{set-getD}
-use borrow.Author.Tests.{eqb-true, eqb-false, eq-eqb, ne-eqb, ltb-true}
+use borrow.Author.Tests.{eqb-true, eqb-false, eq-eqb, ne-eqb, ltb-true, lt-ltb, le-ltb}
 use Rattle.bits.specs.Bit.{bit, lowest}
 use Rattle.cpupri.specs.Found.{lowestLevel, allowedAt, Marked}
 use Rattle.cpupri.proofs.Search.{marked-by}
 use Rattle.cpupri.specs.Record.{masksOf}
 use Rattle.rules.specs.Lists.{In, delete}
-use Rattle.rules.specs.Machine.{Machine, taskOf, prioOf, row, isOnline, idleLevel, level, levels, levelOf, rowLevel, allowed, dequeue, runnable, taskPlaces, highestPriority}
+use Rattle.rules.specs.Machine.{Machine, taskOf, prioOf, row, isOnline, idleLevel, level, levels, levelOf, rowLevel, allowed, dequeue, runnable, taskPlaces, cpuPlaces, highestPriority}
 use Rattle.rules.specs.Migration.{Move, Chosen, waiting, movable, mover, moveOf, nextOf, destination, next}
 use Rattle.rules.specs.Tables.{nothing}
 use Rattle.rules.specs.WellFormed.{WellFormed, Fit}
@@ -33,7 +33,8 @@ use Rattle.laws.proofs.Step.{Origin, origin-row, origin-small}
 use Rattle.placement.proofs.Levels.{levels-row}
 use Rattle.movelog.specs.Entry.{moveBy}
 use Rattle.mover.specs.Foremost.{Foremost, BestOf, OnlyAbove}
-use Rattle.hinting.specs.Hinted.{taskOption}
+use Rattle.hinting.specs.Hinted.{Among, taskOption}
+use Rattle.hinting.specs.declared.hint.Candidates.{Candidates}
 use Rattle.hinting.proofs.Hints.{task-none, task-some}
 use Rattle.choosing.specs.Choosing.{Choosing, stepOf, stepBy, Leads}
 use Rattle.mover.specs.Wanted.{meant}
@@ -380,3 +381,11 @@ module _ {m : Machine} {n : ℕ} {ps cs ms ks flat masks words ls : List ℕ} (k
       (best-same (meant m (Drawn c (getD ls c 0) (s .task))) (movable m) m n b
       (drawn-is m (k .looking .well) c new l s (is ∙ stored new) (getD ls c 0)
       (ap (λ (x : List ℕ). getD x c 0) (k .levels) ∙ levels-below m c (l .small c refl))) best)
+
+-- ---- what is known, by whether a CPU fell
+module _ {m : Machine} (few : Candidates) (h : Among m few) where
+  pub none-fell : cpuPlaces ≤ few .fallen → Limited m none (taskOption (few .new))
+  none-fell l = subst (λ (o : Option ℕ). Limited m o (taskOption (few .new))) (ap (λ (b : Bool). cond b (some (few .fallen)) none) (le-ltb (few .fallen) cpuPlaces l)) h
+
+  pub one-fell : few .fallen < cpuPlaces → Limited m (some (few .fallen)) (taskOption (few .new))
+  one-fell l = subst (λ (o : Option ℕ). Limited m o (taskOption (few .new))) (ap (λ (b : Bool). cond b (some (few .fallen)) none) (lt-ltb (few .fallen) cpuPlaces l)) h

@@ -4,7 +4,7 @@ ghost use mathlib.Core.Logic.{_≢_};
 ghost use Prim.Native.Nat.{_≤_, _<_};
 ghost use lib.ListN.{length, getD};
 ghost use Rattle.bits.specs.Moments.{old};
-ghost use Rattle.rules.specs.Machine.{Machine, taskPlaces, highestPriority};
+ghost use Rattle.rules.specs.Machine.{Machine, taskPlaces, cpuPlaces, highestPriority};
 ghost use Rattle.rules.specs.Migration.{next};
 ghost use Rattle.rules.specs.Tables.{nothing};
 ghost use Rattle.cpupri.specs.Found.{Marked};
@@ -76,8 +76,7 @@ pub fn choose(
     step_of(task, prio, cpu, mask, masks, words)
 }
 
-// The mover; if there is none, 65535 or the one task that could have been it. Where a CPU fell it is the foremost
-// of those that may use it and are above its level, and of the new task if that is movable.
+// The mover; if there is none, 65535 or the one task that could have been it.
 fn foremost(
     few: Candidates,
     n: usize,
@@ -95,10 +94,32 @@ fn foremost(
     ensures { λ t. ⌜ ((m : Machine) → Choosing m n (old prio) (old cpu) (old mask) (old counts) (old rows) (old masks) (old words) (old levels)
         → Among m few → Leads m (old masks) (old prio) (old cpu) (old mask) t) ⌝ }
 {
-    let fallen = few.fallen;
-    if CPUS <= fallen {
+    if CPUS <= few.fallen {
         return few.new;
     }
+    draw(few, n, prio, cpu, mask, rows, counts, masks, words, levels)
+}
+
+// The same where a CPU fell: the foremost of those that may use it and are above its level, and of the new task if that is movable.
+fn draw(
+    few: Candidates,
+    n: usize,
+    prio: &[u8],
+    cpu: &[u8],
+    mask: &[u64],
+    rows: &[u16],
+    counts: &[u16],
+    masks: &[u64; LEVELS],
+    words: &[u64; WORDS],
+    levels: &[u8; CPUS],
+) -> u16
+    requires { ⌜ few .fallen < cpuPlaces ⌝ }
+    requires { ⌜ ((m : Machine) × (Choosing m n (now prio) (now cpu) (now mask) (now counts) (now rows) (now masks) (now words) (now levels)
+        × Among m few)) ⌝ }
+    ensures { λ t. ⌜ ((m : Machine) → Choosing m n (old prio) (old cpu) (old mask) (old counts) (old rows) (old masks) (old words) (old levels)
+        → Among m few → Leads m (old masks) (old prio) (old cpu) (old mask) t) ⌝ }
+{
+    let fallen = few.fallen;
     let movable = step_of(few.new, prio, cpu, mask, masks, words).task;
     let test = Test::Drawn {
         cpu: fallen,
