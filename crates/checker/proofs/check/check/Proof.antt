@@ -1,54 +1,30 @@
--- `checker::check::check` meets its contract.
+-- `checker::check::check` meets its contract: the arrays of a record have their lengths.
 -- Assumes nothing.
-use mathlib.Core.Path.{sym, _∙_}
-use mathlib.Core.Bool.{true, false}
-use borrow.Author.Tests.{not-true, not-false}
-use Rattle.lenttables.specs.Lent.{nowTables}
-use Rattle.rules.specs.Tables.{Tables}
-use Rattle.laws.proofs.Entry.{lengths-shape}
-use Rattle.checker.proofs.Answers.{checked-size, checked-form}
+use borrow.Author.Needs.{needs}
+use lib.ListN.{getD}
+use mir.Syntax.{w64}
+use mir.Val.{Fits}
+use Rattle.cpupri.specs.Consistent.{Sized}
 use Rattle.checker.proofs.check.check.Statement.{statement}
 use Rattle.checker.proofs.check.check.Tie as tie
 use Rattle.checker.proofs.check.check.Proof.Paths as at
 mod Paths
 
--- what the caller lent
-module _ (c : tie.Start) where
-  abbrev tables : Tables
-  tables =
-      let x = c .args in
-      nowTables (x .full) (x .state) (x .policy) (x .prio) (x .cpu) (x .slice) (x .mask) (x .rows) (x .counts) (x .flags) (x .online) (x .log)
+sized : (c : tie.Start) → Sized (c .args .t14)
+sized c = record {
+  masks = search needs;
+  counts = search needs;
+  words = search needs;
+  levels = search needs;
+  mask = λ l. let f : Fits w64 (getD (c .args .t14 .masks) l 0) = search needs in f .fits;
+  word = λ i. let f : Fits w64 (getD (c .args .t14 .words) i 0) = search needs in f .fits;
+}
+
+check-lent-requires : tie.Need-check-lent-requires
+check-lent-requires c κs = sized (at.check-lent-requires c .start)
 
 returns : tie.Need-returns
-returns c =
-    let k = at.returns c in
-    let f = k .lengths-fit in
-    sym (checked-size (k .args .n) (k .args .«record») (tables (k .start)) (sym (f .ensures (k .args .online .now)) ∙ not-true (f .result) (k .if1 .taken)))
-
-tables-fit-requires : tie.Need-tables-fit-requires
-tables-fit-requires c κs =
-    let k = at.tables-fit-requires c in
-    let f = k .lengths-fit in
-    let l = lengths-shape (k .args .n) (tables (k .start)) (sym (f .ensures (k .args .online .now)) ∙ not-false (f .result) (k .if1 .left)) in
-    (l .0, (l .1, l .2))
-
-returns-2 : tie.Need-returns-2
-returns-2 c =
-    let k = at.returns-2 c in
-    let f = k .lengths-fit in
-    let g = k .tables-fit in
-    sym
-    (checked-form (k .args .n) (k .args .«record») (tables (k .start)) (sym (f .ensures (k .args .online .now)) ∙ not-false (f .result) (k .if1 .left)) false
-    (sym (g .ensures) ∙ not-true (g .result) (k .if2 .taken)))
-
-returns-3 : tie.Need-returns-3
-returns-3 c =
-    let k = at.returns-3 c in
-    let f = k .lengths-fit in
-    let g = k .tables-fit in
-    sym
-    (checked-form (k .args .n) (k .args .«record») (tables (k .start)) (sym (f .ensures (k .args .online .now)) ∙ not-false (f .result) (k .if1 .left)) true
-    (sym (g .ensures) ∙ not-false (g .result) (k .if2 .left)))
+returns c = at.returns c .check-lent .ensures
 
 pub check-spec : {M : Type 1} → statement M
-check-spec = at.close returns tables-fit-requires returns-2 returns-3
+check-spec = at.close check-lent-requires returns
