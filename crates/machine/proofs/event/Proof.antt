@@ -1,65 +1,30 @@
--- `machine::event` meets its contract: refused by the check, or handled.
+-- `machine::event` meets its contract: the arrays of a record have their lengths, and come back as those of the new one.
 -- Assumes nothing.
 use borrow.Author.Needs.{needs}
-use mathlib.Core.Path.{sym, _∙_}
-use mathlib.Core.Bool.{false≢true}
-use native.Mathlib.Omega.{arith}
-use Rattle.cpupri.specs.Record.{lentRecord}
-use Rattle.lenttables.specs.Lent.{lent, nowTables}
-use Rattle.rules.specs.Events.{Event, event}
-use Rattle.rules.specs.Tables.{Tables}
-use Rattle.laws.proofs.Entry.{checked-good}
-use Rattle.handling.proofs.Handling.{unchecked-result, result-demand}
+use lib.ListN.{getD}
+use mir.Syntax.{w64}
+use mir.Val.{Fits}
+use Rattle.cpupri.specs.Consistent.{Sized}
 use Rattle.machine.proofs.event.Statement.{statement}
 use Rattle.machine.proofs.event.Tie as tie
 use Rattle.machine.proofs.event.Proof.Paths as at
 mod Paths
 
--- what the caller lent
-module _ (c : tie.Start) where
-  abbrev tables : Tables
-  tables =
-      let x = c .args in
-      nowTables (x .full) (x .state) (x .policy) (x .prio) (x .cpu) (x .slice) (x .mask) (x .rows) (x .counts) (x .flags) (x .online) (x .log)
+sized : (c : tie.Start) → Sized (c .args .«record»)
+sized c = record {
+  masks = search needs;
+  counts = search needs;
+  words = search needs;
+  levels = search needs;
+  mask = λ l. let f : Fits w64 (getD (c .args .«record» .masks) l 0) = search needs in f .fits;
+  word = λ i. let f : Fits w64 (getD (c .args .«record» .words) i 0) = search needs in f .fits;
+}
 
-  abbrev asked : Event
-  asked = let x = c .args in event (x .kind) (x .who) (x .a) (x .b) (x .k)
-
-check-requires : tie.Need-check-requires
-check-requires c κs = search needs
+event-lent-requires : tie.Need-event-lent-requires
+event-lent-requires c κs = sized (at.event-lent-requires c .start)
 
 returns : tie.Need-returns
-returns c =
-    let k = at.returns c in
-    let no = k .if1 .taken in (
-      unchecked-result (k .args .n) (k .args .«record») (tables (k .start)) (asked (k .start)) (k .check .result) (k .check .ensures) no,
-      (λ z. absurd (no z), λ z. absurd (no z)),
-    )
-
--- tables that passed the check have a full slice of at most 1000 ticks
-cast-handle : tie.Need-cast-handle
-cast-handle c =
-    let k = at.cast-handle c in
-    let good = checked-good (k .args .n) (k .args .«record») (tables (k .start)) (sym (k .check .ensures) ∙ k .if1 .left) in
-    omega (arith, good .machine .shape .ticks)
-
-handle-requires : tie.Need-handle-requires
-handle-requires c κs = let k = at.handle-requires c in (sym (k .check .ensures) ∙ k .if1 .left, λ e. absurd (false≢true e))
-
-returns-2 : tie.Need-returns-2
-returns-2 c =
-    let k = at.returns-2 c in
-    let h = k .handle in
-    let o = k .handle-last in
-    let r = lentRecord (o .masks) (o .tallies) (o .words) (o .levels) in
-    let t = lent (k .args .full) (o .state) (o .policy) (o .prio) (o .cpu) (o .slice) (o .mask) (o .rows) (o .counts) (o .flags) (o .online) (o .log) in
-    let s = k .start in (
-      h .ensures .0,
-      (
-        result-demand (k .args .n) (k .args .«record») (tables s) (asked s) (h .result .answer) (h .result .moves) r t (h .ensures .0),
-        λ z. h .ensures .1 .0,
-      ),
-    )
+returns c = at.returns c .event-lent .ensures
 
 pub event-spec : {M : Type 1} → statement M
-event-spec = at.close check-requires returns cast-handle handle-requires returns-2
+event-spec = at.close event-lent-requires returns
