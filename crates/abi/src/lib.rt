@@ -9,11 +9,18 @@ ghost use Rattle.rules.specs.LentDemand3.{LentDemand3};
 ghost use Rattle.rules.specs.Tables.{machineOf};
 ghost use Rattle.rules.specs.Entry.{result};
 ghost use Rattle.lentrecord.specs.Entry.{lentChecked, lentHandled, lentFound, answer};
+use checker::check::check_lent;
 use cpupri::find::Found;
+use cpupri::record::CPUS;
+use cpupri::record::LEVELS;
+use cpupri::record::Record;
+use cpupri::record::WORDS;
 use lentrecord::lengths_fit;
+use lentrecord::load;
 use lentrecord::read;
 use lentrecord::tell;
 use lentrecord::write;
+use machine::event_lent;
 use rules::answer::BAD_SIZE;
 
 // 0 for a well-formed machine, 1 if n, the full slice or a length does not fit, 2 if it is not well-formed. Nothing
@@ -49,8 +56,21 @@ pub extern "C" fn qoriwesh_check(
     ) {
         return BAD_SIZE;
     }
-    let record = read(level_masks, level_counts, level_words, levels);
-    checker::check::check(
+    let mut masks = [0u64; LEVELS];
+    let mut tallies = [0u8; LEVELS];
+    let mut words = [0u64; WORDS];
+    let mut places = [0u8; CPUS];
+    load(
+        level_masks,
+        level_counts,
+        level_words,
+        levels,
+        &mut masks,
+        &mut tallies,
+        &mut words,
+        &mut places,
+    );
+    check_lent(
         n,
         full,
         state,
@@ -64,7 +84,10 @@ pub extern "C" fn qoriwesh_check(
         flags,
         online,
         log,
-        record,
+        &masks,
+        &tallies,
+        &words,
+        &places,
     )
 }
 
@@ -114,8 +137,21 @@ pub extern "C" fn qoriwesh_event(
     ) {
         return BAD_SIZE;
     }
-    let given = read(level_masks, level_counts, level_words, levels);
-    let o = machine::event(
+    let mut masks = [0u64; LEVELS];
+    let mut tallies = [0u8; LEVELS];
+    let mut words = [0u64; WORDS];
+    let mut places = [0u8; CPUS];
+    load(
+        level_masks,
+        level_counts,
+        level_words,
+        levels,
+        &mut masks,
+        &mut tallies,
+        &mut words,
+        &mut places,
+    );
+    let o = event_lent(
         n,
         full,
         state,
@@ -129,15 +165,24 @@ pub extern "C" fn qoriwesh_event(
         flags,
         online,
         log,
+        &mut masks,
+        &mut tallies,
+        &mut words,
+        &mut places,
         kind,
         who,
         a,
         b,
         k,
-        given,
     );
     *moves = o.moves;
-    write(o.record, level_masks, level_counts, level_words, levels);
+    let after = Record {
+        masks,
+        counts: tallies,
+        words,
+        levels: places,
+    };
+    write(after, level_masks, level_counts, level_words, levels);
     o.answer
 }
 

@@ -3,12 +3,15 @@
 use mathlib.Core.Path.{_≡_, ap, _∙_}
 use mathlib.Core.Bool.{true, _&&_}
 use mathlib.Core.List.{List}
-use Prim.Native.Nat.{ℕ}
+use Prim.Native.Nat.{ℕ, _^_, _<_}
 use lib.Dec.{eqb}
+use lib.ListN.{length, getD}
 use borrow.Author.Tests.{eqb-true}
 use Rattle.bits.proofs.Tests.{and-left, and-right}
 use Rattle.cpupri.specs.Level.{levelCount, wordCount, cpuPlaces}
-use Rattle.lentrecord.specs.Lent.{lentRecord, recordLengthsFit}
+use Rattle.cpupri.specs.Consistent as consistent
+use Rattle.levels.specs.declared.record.Record.{Record}
+use Rattle.lentrecord.specs.Lent.{lentRecord, recordLengthsFit, lentFits}
 
 pub record Sized (m c w l : ℕ) : Type 0 where
   pub masks : m ≡ levelCount
@@ -31,6 +34,12 @@ sized m c w l h =
       words = eqb-true w wordCount (and-right (a && b) d abd);
       levels = eqb-true l cpuPlaces (and-right (a && b && d) e h);
     }
+
+-- a record of these lengths, of words of 64 bits, is what the type of a record says
+pub as-typed : (r : Record) → lentFits r ≡ true → ((l : ℕ) → getD (r .masks) l 0 < 2 ^ 64) → ((i : ℕ) → getD (r .words) i 0 < 2 ^ 64) → consistent.Sized r
+as-typed r h mask word =
+    let s = sized (length (r .masks)) (length (r .counts)) (length (r .words)) (length (r .levels)) h in
+    record { masks = s .masks; counts = s .counts; words = s .words; levels = s .levels; mask = mask; word = word }
 
 pub same-record : {m m' c c' w w' l l' : List ℕ} → m ≡ m' → c ≡ c' → w ≡ w' → l ≡ l' → lentRecord m c w l ≡ lentRecord m' c' w' l'
 same-record {m} {m'} {c} {c'} {w} {w'} {l} {l'} p q r s =

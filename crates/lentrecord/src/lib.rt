@@ -31,19 +31,37 @@ pub fn read(masks: &[u64], counts: &[u8], words: &[u64], levels: &[u8]) -> Recor
     ensures { λ r. ⌜ r ≡ oldRecord masks counts words levels ⌝ }
 {
     let mut m = [0u64; LEVELS];
-    copy_u64(masks, &mut m);
     let mut c = [0u8; LEVELS];
-    copy_u8(counts, &mut c);
     let mut w = [0u64; WORDS];
-    copy_u64(words, &mut w);
     let mut l = [0u8; CPUS];
-    copy_u8(levels, &mut l);
+    load(masks, counts, words, levels, &mut m, &mut c, &mut w, &mut l);
     Record {
         masks: m,
         counts: c,
         words: w,
         levels: l,
     }
+}
+
+// The record of four tables, copied into four others.
+pub fn load(
+    masks: &[u64],
+    counts: &[u8],
+    words: &[u64],
+    levels: &[u8],
+    to_masks: &mut [u64],
+    to_counts: &mut [u8],
+    to_words: &mut [u64],
+    to_levels: &mut [u8],
+)
+    requires { ⌜ recordLengthsFit (length (now masks)) (length (now counts)) (length (now words)) (length (now levels)) ≡ true ⌝ }
+    requires { ⌜ recordLengthsFit (length (now «to_masks»)) (length (now «to_counts»)) (length (now «to_words»)) (length (now «to_levels»)) ≡ true ⌝ }
+    ensures { λ u. ⌜ newRecord «to_masks» «to_counts» «to_words» «to_levels» ≡ oldRecord masks counts words levels ⌝ }
+{
+    copy_u64(masks, to_masks);
+    copy_u8(counts, to_counts);
+    copy_u64(words, to_words);
+    copy_u8(levels, to_levels);
 }
 
 // The four tables hold the record.

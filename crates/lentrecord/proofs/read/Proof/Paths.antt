@@ -6,38 +6,20 @@ use Rattle.lentrecord.proofs.read.Tie as tie
 abbrev typeOf : {A : Type 0} → A → Type 0
 typeOf {A} x = A
 
-abbrev pub start : (c : tie.Start) → record { start : tie.Start }
-start c = record { start = c }
+abbrev pub start : (c : tie.Start) → record { pre : typeOf (c .pre) }
+start c = record { pre = c .pre }
 
-abbrev pub after-copy-u64 : (c : tie.After-copy-u64) → let b = start (c .before .before .before .before .before .before) in record { start : typeOf (b .start); copy-u64 : typeOf (c .copy-u64) }
-after-copy-u64 c = let b = start (c .before .before .before .before .before .before) in record { start = b .start; copy-u64 = c .copy-u64 }
+abbrev pub after-load : (c : tie.After-load) → record { load : typeOf (c .load) }
+after-load c = record { load = c .load }
 
-abbrev pub after-copy-u8 : (c : tie.After-copy-u8) → let b = after-copy-u64 (c .before .before .before) in record { start : typeOf (b .start); copy-u64 : typeOf (b .copy-u64); copy-u8 : typeOf (c .copy-u8) }
-after-copy-u8 c = let b = after-copy-u64 (c .before .before .before) in record { start = b .start; copy-u64 = b .copy-u64; copy-u8 = c .copy-u8 }
+abbrev pub load-requires : (c : tie.After-l) → typeOf (start (c .before .before .before .before .before .before .before .before))
+load-requires c = start (c .before .before .before .before .before .before .before .before)
 
-abbrev pub after-copy-u642 : (c : tie.After-copy-u642) → let b = after-copy-u8 (c .before .before .before) in record { start : typeOf (b .start); copy-u64 : typeOf (b .copy-u64); copy-u8 : typeOf (b .copy-u8); copy-u642 : typeOf (c .copy-u642) }
-after-copy-u642 c = let b = after-copy-u8 (c .before .before .before) in record { start = b .start; copy-u64 = b .copy-u64; copy-u8 = b .copy-u8; copy-u642 = c .copy-u642 }
+abbrev pub returns : (c : tie.After-l2) → typeOf (after-load (c .before .before .before .before))
+returns c = after-load (c .before .before .before .before)
 
-abbrev pub after-copy-u82 : (c : tie.After-copy-u82) → let b = after-copy-u642 (c .before .before .before) in record { copy-u64 : typeOf (b .copy-u64); copy-u8 : typeOf (b .copy-u8); copy-u642 : typeOf (b .copy-u642); copy-u82 : typeOf (c .copy-u82) }
-after-copy-u82 c = let b = after-copy-u642 (c .before .before .before) in record { copy-u64 = b .copy-u64; copy-u8 = b .copy-u8; copy-u642 = b .copy-u642; copy-u82 = c .copy-u82 }
-
-abbrev pub copy-u64-requires : (c : tie.After-m) → typeOf (start (c .before .before .before .before .before))
-copy-u64-requires c = start (c .before .before .before .before .before)
-
-abbrev pub copy-u8-requires : (c : tie.After-c) → typeOf (after-copy-u64 (c .before .before))
-copy-u8-requires c = after-copy-u64 (c .before .before)
-
-abbrev pub copy-u64-requires-2 : (c : tie.After-w) → typeOf (after-copy-u8 (c .before .before))
-copy-u64-requires-2 c = after-copy-u8 (c .before .before)
-
-abbrev pub copy-u8-requires-2 : (c : tie.After-l) → typeOf (after-copy-u642 (c .before .before))
-copy-u8-requires-2 c = after-copy-u642 (c .before .before)
-
-abbrev pub returns : (c : tie.After-l2) → typeOf (after-copy-u82 (c .before))
-returns c = after-copy-u82 (c .before)
-
-pub close : {M : Type 1} → tie.Need-slice-aggregate-copy-u64 → tie.Need-copy-u64-requires → tie.Need-slice-aggregate-copy-u8 → tie.Need-copy-u8-requires → tie.Need-slice-aggregate-copy-u64-2 → tie.Need-copy-u64-requires-2 → tie.Need-slice-aggregate-copy-u8-2 → tie.Need-copy-u8-requires-2 → tie.Need-returns → statement M
-close a0 a1 a2 a3 a4 a5 a6 a7 a8 =
+pub close : {M : Type 1} → tie.Need-slice-aggregate-load → tie.Need-slice-aggregate-load-2 → tie.Need-slice-aggregate-load-3 → tie.Need-slice-aggregate-load-4 → tie.Need-load-requires → tie.Need-returns → statement M
+close a0 a1 a2 a3 a4 a5 =
     tie.close
     (tie.spec
     a0
@@ -45,7 +27,4 @@ close a0 a1 a2 a3 a4 a5 a6 a7 a8 =
     a2
     a3
     a4
-    a5
-    a6
-    a7
-    a8)
+    a5)
