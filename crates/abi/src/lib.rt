@@ -11,13 +11,13 @@ ghost use Rattle.rules.specs.Entry.{result};
 ghost use Rattle.lentrecord.specs.Entry.{lentChecked, lentHandled, lentFound, answer};
 use checker::check::check_lent;
 use cpupri::find::Found;
+use cpupri::find::find_in;
 use cpupri::record::CPUS;
 use cpupri::record::LEVELS;
 use cpupri::record::Record;
 use cpupri::record::WORDS;
 use lentrecord::lengths_fit;
 use lentrecord::load;
-use lentrecord::read;
 use lentrecord::tell;
 use lentrecord::write;
 use machine::event_lent;
@@ -190,12 +190,12 @@ pub extern "C" fn qoriwesh_event(
 // a refusal, 1, 2, 7 or 8, has 255 and 0 too. `masks_read` is how many masks were read: one for each level with a CPU below `level`, up to the
 // one found; 0 on a refusal.
 #[no_mangle]
-pub extern "C" fn qoriwesh_find(
+pub extern "C" fn qoriwesh_find<'a>(
     n: usize,
-    level_masks: &[u64],
-    level_counts: &[u8],
-    level_words: &[u64],
-    levels: &[u8],
+    level_masks: &'a [u64],
+    level_counts: &'a [u8],
+    level_words: &'a [u64],
+    levels: &'a [u8],
     level: u32,
     mask: u64,
     found_level: &mut u8,
@@ -218,7 +218,14 @@ pub extern "C" fn qoriwesh_find(
             masks_read,
         );
     }
-    let record = read(level_masks, level_counts, level_words, levels);
-    let lowest = cpupri::find::find(n, record, level, mask);
+    let lowest = find_in(
+        n,
+        level_masks,
+        level_counts,
+        level_words,
+        levels,
+        level,
+        mask,
+    );
     tell(lowest, found_level, found_mask, masks_read)
 }

@@ -21,10 +21,10 @@ mod compare;
 // Whether the masks, counts, words and levels of a record say the same, for n CPUs.
 pub fn is_consistent<'a>(
     n: usize,
-    masks: &'a [u64; LEVELS],
-    counts: &'a [u8; LEVELS],
-    words: &'a [u64; WORDS],
-    levels: &'a [u8; CPUS],
+    masks: &'a [u64],
+    counts: &'a [u8],
+    words: &'a [u64],
+    levels: &'a [u8],
 ) -> bool
     requires { ⌜ Sized (nowRecord masks counts words levels) ⌝ }
     ensures { λ b. ⌜ b ≡ consistent n (oldRecord masks counts words levels) ⌝ }
@@ -54,7 +54,7 @@ pub fn is_consistent<'a>(
 // of these CPUs at their levels.
 fn gather(
     n: usize,
-    from: &[u8; CPUS],
+    from: &[u8],
     masks: &mut [u64; LEVELS],
     counts: &mut [u8; LEVELS],
     words: &mut [u64; WORDS],

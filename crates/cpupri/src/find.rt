@@ -2,16 +2,18 @@
 // level bits, until one has an allowed CPU. It reads one mask for each level that has a CPU.
 ghost use mathlib.Core.Path.{_≡_};
 ghost use Prim.Native.Nat.{_≤_};
+ghost use lib.ListN.{length};
 ghost use Rattle.bits.specs.Bit.{count};
 ghost use Rattle.bits.specs.Moments.{old};
-ghost use Rattle.levels.specs.Level.{levelCount, cpuPlaces};
+ghost use Rattle.levels.specs.Level.{levelCount, wordCount, cpuPlaces};
+ghost use Rattle.levels.specs.Lent.{nowRecord, oldRecord};
+ghost use Rattle.consistency.specs.Consistent.{Sized};
 ghost use Rattle.cpupri.specs.Found.{maskFits, marked, Marked, lowestLevel, lowestFound, found};
 ghost use Rattle.cpupri.specs.Search.{Passed, LowestIn};
 use consistency::is_consistent;
 use levels::record::CPUS;
 use levels::record::LEVELS;
 use levels::record::Record;
-use levels::record::WORDS;
 
 // Levels in a word.
 const BITS: usize = 64;
@@ -32,10 +34,26 @@ pub enum Found {
 pub fn find(n: usize, r: Record, level: u32, mask: u64) -> Found
     ensures { λ a. ⌜ a ≡ found n r level mask ⌝ }
 {
+    find_in(n, &r.masks, &r.counts, &r.words, &r.levels, level, mask)
+}
+
+// The same in a record that is lent as its four tables.
+pub fn find_in<'a>(
+    n: usize,
+    masks: &'a [u64],
+    counts: &'a [u8],
+    words: &'a [u64],
+    levels: &'a [u8],
+    level: u32,
+    mask: u64,
+) -> Found
+    requires { ⌜ Sized (nowRecord masks counts words levels) ⌝ }
+    ensures { λ a. ⌜ a ≡ found n (oldRecord masks counts words levels) level mask ⌝ }
+{
     if !((0 < n) & (n <= CPUS)) {
         return Found::Refused(1);
     }
-    if !is_consistent(n, &r.masks, &r.counts, &r.words, &r.levels) {
+    if !is_consistent(n, masks, counts, words, levels) {
         return Found::Refused(2);
     }
     let asked = level as usize;
@@ -45,7 +63,7 @@ pub fn find(n: usize, r: Record, level: u32, mask: u64) -> Found
     if !mask_fits(n, mask) {
         return Found::Refused(8);
     }
-    lowest(&r.masks, &r.words, asked, mask)
+    lowest(masks, words, asked, mask)
 }
 
 // Whether a mask is one of n CPUs: not 0, and no bit at n or above.
@@ -60,9 +78,10 @@ pub fn mask_fits(n: usize, mask: u64) -> bool
 }
 
 // The search itself, over a record's masks and words.
-fn lowest<'a>(masks: &'a [u64; LEVELS], words: &'a [u64; WORDS], below: usize, mask: u64) -> Found
+fn lowest(masks: &[u64], words: &[u64], below: usize, mask: u64) -> Found
     requires { ⌜ below ≤ levelCount ⌝ }
     requires { ⌜ Marked (now masks) (now words) ⌝ }
+    requires { ⌜ ((length (now masks) ≡ levelCount) × (length (now words) ≡ wordCount)) ⌝ }
     ensures { λ a. ⌜ a ≡ lowestFound (old masks) below mask ⌝ }
 {
     let level = lowest_level(masks, words, below, mask);
@@ -79,9 +98,10 @@ fn lowest<'a>(masks: &'a [u64; LEVELS], words: &'a [u64; WORDS], below: usize, m
 }
 
 // The lowest level below `below` that has a CPU of the mask, or `below`.
-pub fn lowest_level(masks: &[u64; LEVELS], words: &[u64; WORDS], below: usize, mask: u64) -> usize
+pub fn lowest_level(masks: &[u64], words: &[u64], below: usize, mask: u64) -> usize
     requires { ⌜ below ≤ levelCount ⌝ }
     requires { ⌜ Marked (now masks) (now words) ⌝ }
+    requires { ⌜ ((length (now masks) ≡ levelCount) × (length (now words) ≡ wordCount)) ⌝ }
     ensures { λ l. ⌜ l ≡ lowestLevel (old masks) below mask ⌝ }
 {
     let level = lowest_in(masks, words[0], 0, below, mask);
@@ -95,9 +115,10 @@ pub fn lowest_level(masks: &[u64; LEVELS], words: &[u64; WORDS], below: usize, m
 }
 
 // The same among the levels of one word, which begin at level `base`: one that has no bit in it has no CPU.
-fn lowest_in(masks: &[u64; LEVELS], word: u64, base: usize, below: usize, mask: u64) -> usize
+fn lowest_in(masks: &[u64], word: u64, base: usize, below: usize, mask: u64) -> usize
     requires { ⌜ ((base ≤ 64) × (below ≤ levelCount)) ⌝ }
     requires { ⌜ Passed (now masks) mask base word ⌝ }
+    requires { ⌜ length (now masks) ≡ levelCount ⌝ }
     ensures { λ l. ⌜ LowestIn (old masks) mask base below l ⌝ }
 {
     let mut active = word;
@@ -116,8 +137,9 @@ fn lowest_in(masks: &[u64; LEVELS], word: u64, base: usize, below: usize, mask: 
 }
 
 // How many levels below `end` are marked in the words.
-fn marked_below(words: &[u64; WORDS], end: usize) -> u32
+fn marked_below(words: &[u64], end: usize) -> u32
     requires { ⌜ end ≤ levelCount ⌝ }
+    requires { ⌜ length (now words) ≡ wordCount ⌝ }
     ensures { λ k. ⌜ k ≡ count (marked (old words)) end ⌝ }
 {
     if end <= BITS {

@@ -57,12 +57,11 @@ unfolding lentHandled
 handled-fit n a k r q t u s z e h read same written =
     ap (λ (x : Record). result a k x z) written ∙ same ∙ ap (λ (x : Record). entry.handled n x s e) read ∙ sym (at-true (entry.handled n r s e) (entry.kept badSize r s) h)
 
-pub found-fit : (n : ℕ) (r q : Record) (level mask : ℕ) (a : Found) → lentFits r ≡ true → q ≡ r → a ≡ finder.found n q level mask
-    → finder.answerOf a ≡ lentFound n r level mask
+-- the finder reads what was lent where it is
+pub found-fit : (n : ℕ) (r : Record) (level mask : ℕ) (a : Found) → lentFits r ≡ true → a ≡ finder.found n r level mask → finder.answerOf a ≡ lentFound n r level mask
 unfolding lentFound
-found-fit n r q level mask a h read same =
-    ap finder.answerOf (same ∙ ap (λ (x : Record). finder.found n x level mask) read)
-    ∙ sym (at-true (finder.answerOf (finder.found n r level mask)) (finder.without badSize 0) h)
+found-fit n r level mask a h same =
+    ap finder.answerOf same ∙ sym (at-true (finder.answerOf (finder.found n r level mask)) (finder.without badSize 0) h)
 
 -- what comes back accepted passes the check again
 pub checked-again : (n : ℕ) (u t : Record) (z : Tables) → lentFits u ≡ true → u ≡ t → entry.checked n t z ≡ 0 → lentChecked n u z ≡ 0

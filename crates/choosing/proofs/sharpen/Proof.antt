@@ -33,7 +33,7 @@ enum-told : tie.Need-enum-told
 enum-told c = search needs
 
 lowest-level-requires : tie.Need-lowest-level-requires
-lowest-level-requires c κs = let p = at.lowest-level-requires c .pre in (omega arith, marked-by (levels (p .0)) (p .1 .masks) (p .1 .words))
+lowest-level-requires c κs = let p = at.lowest-level-requires c .pre in (omega arith, (marked-by (levels (p .0)) (p .1 .masks) (p .1 .words), (search needs, search needs)))
 
 cast-lowest : tie.Need-cast-lowest
 cast-lowest c =

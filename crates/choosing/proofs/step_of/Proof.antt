@@ -80,7 +80,7 @@ shared-slice-read-allowed : tie.Need-shared-slice-read-allowed
 shared-slice-read-allowed c = let k = at.shared-slice-read-allowed c in omega (arith, place (k .else1) .0, k .pre .1 .1 .0)
 
 lowest-level-requires : tie.Need-lowest-level-requires
-lowest-level-requires c κs = let k = at.lowest-level-requires c in (omega (arith, k .of-priority .ensures, place (k .else1) .1), k .pre .1 .1 .1 .1)
+lowest-level-requires c κs = let k = at.lowest-level-requires c in (omega (arith, k .of-priority .ensures, place (k .else1) .1), (k .pre .1 .1 .1 .1, (search needs, search needs)))
 
 returns-2 : tie.Need-returns-2
 returns-2 c =

@@ -37,8 +37,8 @@ places-requires c κs = search needs
 loop-holds : tie.Need-loop-holds Inv-loop μ-loop
 loop-holds c = let k = at.loop-holds c in (omega arith, below-none _, k .pre .1 .0, k .pre .1 .1)
 
-element-copy-out-level : tie.Need-element-copy-out-level Inv-loop μ-loop
-element-copy-out-level c = omega arith
+shared-slice-read-level : tie.Need-shared-slice-read-level Inv-loop μ-loop
+shared-slice-read-level c = omega arith
 
 level-fits-requires : tie.Need-level-fits-requires Inv-loop μ-loop
 level-fits-requires c κs = search needs
@@ -99,7 +99,7 @@ gather-spec =
     μ-loop
     places-requires
     loop-holds
-    element-copy-out-level
+    shared-slice-read-level
     level-fits-requires
     returns
     join-requires

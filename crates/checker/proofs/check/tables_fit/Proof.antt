@@ -73,7 +73,9 @@ returns-3 c =
     (λ e. no (rows .result .fit) (rows .ensures .0) (not-true (rows .result .fit) (k .if3 .taken)) (fit-rows n s (p .0) (p .1 .0) (p .1 .1 .0) r e)))
 
 columns-fit-requires : tie.Need-columns-fit-requires
-columns-fit-requires c κs = search needs
+columns-fit-requires c κs =
+    let s = at.columns-fit-requires c .pre .0 in
+    (s .cpus, ((s .state, s .policy, s .prio), (s .cpu, s .slice, s .mask)))
 
 returns-4 : tie.Need-returns-4
 returns-4 c =

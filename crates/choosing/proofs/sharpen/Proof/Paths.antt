@@ -15,8 +15,8 @@ after-hint c = record { hint = c .hint }
 abbrev pub at-match-keys2 : (c : tie.At-match-keys2) → let b = start (c .before .before .before .before) in record { args : typeOf (b .args); pre : typeOf (b .pre) }
 at-match-keys2 c = let b = start (c .before .before .before .before) in record { args = b .args; pre = b .pre }
 
-abbrev pub after-lowest-level : (c : tie.After-lowest-level) → let b = at-match-keys2 (c .before .before) in record { args : typeOf (b .args); pre : typeOf (b .pre); lowest-level : typeOf (c .lowest-level) }
-after-lowest-level c = let b = at-match-keys2 (c .before .before) in record { args = b .args; pre = b .pre; lowest-level = c .lowest-level }
+abbrev pub after-lowest-level : (c : tie.After-lowest-level) → let b = at-match-keys2 (c .before .before .before .before) in record { args : typeOf (b .args); pre : typeOf (b .pre); lowest-level : typeOf (c .lowest-level) }
+after-lowest-level c = let b = at-match-keys2 (c .before .before .before .before) in record { args = b .args; pre = b .pre; lowest-level = c .lowest-level }
 
 abbrev pub after-who-above : (c : tie.After-who-above) → let b = after-lowest-level (c .before) in record { lowest-level : typeOf (b .lowest-level); who-above : typeOf (c .who-above) }
 after-who-above c = let b = after-lowest-level (c .before) in record { lowest-level = b .lowest-level; who-above = c .who-above }
@@ -24,8 +24,8 @@ after-who-above c = let b = after-lowest-level (c .before) in record { lowest-le
 abbrev pub else1 : (c : tie.Else1) → let b = after-who-above (c .before) in record { lowest-level : typeOf (b .lowest-level); who-above : typeOf (b .who-above); if1 : typeOf (c .if1) }
 else1 c = let b = after-who-above (c .before) in record { lowest-level = b .lowest-level; who-above = b .who-above; if1 = c .if1 }
 
-abbrev pub lowest-level-requires : (c : tie.After-enum-told) → typeOf (at-match-keys2 (c .before))
-lowest-level-requires c = at-match-keys2 (c .before)
+abbrev pub lowest-level-requires : (c : tie.After-lowest-level-arg2) → typeOf (at-match-keys2 (c .before .before .before))
+lowest-level-requires c = at-match-keys2 (c .before .before .before)
 
 abbrev pub cast-lowest : (c : tie.After-lowest-level) → typeOf (after-lowest-level c)
 cast-lowest c = after-lowest-level c

@@ -13,10 +13,10 @@ abbrev pub Need-cast : Type 0
 Need-cast = tie.Need-cast-t16
 
 abbrev pub Need-cast-2 : Type 0
-Need-cast-2 = tie.Need-cast-t25
+Need-cast-2 = tie.Need-cast-t29
 
 abbrev pub Need-cast-3 : Type 0
-Need-cast-3 = tie.Need-cast-t26
+Need-cast-3 = tie.Need-cast-t30
 
 abbrev pub start : (c : tie.Start) → record { args : typeOf (c .args); pre : typeOf (c .pre) }
 start c = record { args = c .args; pre = c .pre }
@@ -30,8 +30,8 @@ else1 c = let b = start (c .before .before .before .before) in record { args = b
 abbrev pub after-of-priority : (c : tie.After-of-priority) → let b = else1 (c .before .before) in record { args : typeOf (b .args); pre : typeOf (b .pre); if1 : typeOf (b .if1); else1 : typeOf (b .else1); of-priority : typeOf (c .of-priority) }
 after-of-priority c = let b = else1 (c .before .before) in record { args = b .args; pre = b .pre; if1 = b .if1; else1 = b .else1; of-priority = c .of-priority }
 
-abbrev pub after-lowest-level : (c : tie.After-lowest-level) → let b = after-of-priority (c .before .before .before) in record { args : typeOf (b .args); pre : typeOf (b .pre); if1 : typeOf (b .if1); else1 : typeOf (b .else1); of-priority : typeOf (b .of-priority); lowest-level : typeOf (c .lowest-level) }
-after-lowest-level c = let b = after-of-priority (c .before .before .before) in record { args = b .args; pre = b .pre; if1 = b .if1; else1 = b .else1; of-priority = b .of-priority; lowest-level = c .lowest-level }
+abbrev pub after-lowest-level : (c : tie.After-lowest-level) → let b = after-of-priority (c .before .before .before .before .before) in record { args : typeOf (b .args); pre : typeOf (b .pre); if1 : typeOf (b .if1); else1 : typeOf (b .else1); of-priority : typeOf (b .of-priority); lowest-level : typeOf (c .lowest-level) }
+after-lowest-level c = let b = after-of-priority (c .before .before .before .before .before) in record { args = b .args; pre = b .pre; if1 = b .if1; else1 = b .else1; of-priority = b .of-priority; lowest-level = c .lowest-level }
 
 abbrev pub then2 : (c : tie.Then2) → let b = after-lowest-level (c .before) in record { args : typeOf (b .args); if1 : typeOf (b .if1); of-priority : typeOf (b .of-priority); lowest-level : typeOf (b .lowest-level); if2 : typeOf (c .if2) }
 then2 c = let b = after-lowest-level (c .before) in record { args = b .args; if1 = b .if1; of-priority = b .of-priority; lowest-level = b .lowest-level; if2 = c .if2 }
@@ -57,8 +57,8 @@ of-priority-requires c = else1 (c .before)
 abbrev pub shared-slice-read-allowed : (c : tie.After-shared-slice-known5) → typeOf (after-of-priority (c .before .before))
 shared-slice-read-allowed c = after-of-priority (c .before .before)
 
-abbrev pub lowest-level-requires : (c : tie.After-shared-slice-known5) → typeOf (after-of-priority (c .before .before))
-lowest-level-requires c = after-of-priority (c .before .before)
+abbrev pub lowest-level-requires : (c : tie.After-lowest-level-arg2) → typeOf (after-of-priority (c .before .before .before .before))
+lowest-level-requires c = after-of-priority (c .before .before .before .before)
 
 abbrev pub returns-2 : (c : tie.Then2) → typeOf (then2 c)
 returns-2 c = then2 c
@@ -75,7 +75,7 @@ element-copy-out-lowest-bit c = after-shared-slice-known6 c
 abbrev pub returns-3 : (c : tie.After-lowest-bit) → typeOf (after-lowest-bit c)
 returns-3 c = after-lowest-bit c
 
-pub close : {M : Type 1} → tie.Need-returns → tie.Need-shared-slice-read-of-priority → tie.Need-of-priority-requires → tie.Need-cast-below → tie.Need-mul-allowed → tie.Need-shared-slice-read-allowed → tie.Need-lowest-level-requires → tie.Need-returns-2 → tie.Need-shared-slice-read-t15 → tie.Need-cast-t16 → tie.Need-mul-lowest-bit → tie.Need-element-copy-out-lowest-bit → tie.Need-lowest-bit-requires → tie.Need-cast-t25 → tie.Need-cast-t26 → tie.Need-returns-3 → statement M
+pub close : {M : Type 1} → tie.Need-returns → tie.Need-shared-slice-read-of-priority → tie.Need-of-priority-requires → tie.Need-cast-below → tie.Need-mul-allowed → tie.Need-shared-slice-read-allowed → tie.Need-lowest-level-requires → tie.Need-returns-2 → tie.Need-shared-slice-read-t15 → tie.Need-cast-t16 → tie.Need-mul-lowest-bit → tie.Need-element-copy-out-lowest-bit → tie.Need-lowest-bit-requires → tie.Need-cast-t29 → tie.Need-cast-t30 → tie.Need-returns-3 → statement M
 close a0 a1 a2 a3 a4 a5 a6 a7 a8 a9 a10 a11 a12 a13 a14 a15 =
     tie.close
     (tie.spec

@@ -10,8 +10,8 @@ module _ {i0 : tie.InvT-loop} {i1 : tie.MeasureT-loop} where
   abbrev pub start : (c : tie.Start i0 i1) → record { args : typeOf (c .args); pre : typeOf (c .pre) }
   start c = record { args = c .args; pre = c .pre }
 
-  abbrev pub after-places : (c : tie.After-places i0 i1) → let b = start (c .before) in record { args : typeOf (b .args); pre : typeOf (b .pre) }
-  after-places c = let b = start (c .before) in record { args = b .args; pre = b .pre }
+  abbrev pub after-places : (c : tie.After-places i0 i1) → let b = start (c .before .before) in record { args : typeOf (b .args); pre : typeOf (b .pre) }
+  after-places c = let b = start (c .before .before) in record { args = b .args; pre = b .pre }
 
   abbrev pub at-loop : (c : tie.At-loop i0 i1) → let b = after-places (c .before) in record { args : typeOf (b .args); pre : typeOf (b .pre); loop : typeOf (c .loop) }
   at-loop c = let b = after-places (c .before) in record { args = b .args; pre = b .pre; loop = c .loop }
@@ -49,7 +49,7 @@ module _ {i0 : tie.InvT-loop} {i1 : tie.MeasureT-loop} where
   abbrev pub returns-2 : (c : tie.After-loop i0 i1) → typeOf (after-loop c)
   returns-2 c = after-loop c
 
-pub close : {M : Type 1} → (i0 : tie.InvT-loop) → (i1 : tie.MeasureT-loop) → tie.Need-places-requires i0 i1 → tie.Need-loop-holds i0 i1 → tie.Need-element-copy-out-level i0 i1 → tie.Need-level-fits-requires i0 i1 → tie.Need-returns i0 i1 → tie.Need-join-requires i0 i1 → tie.Need-add-cpu i0 i1 → tie.Need-loop-less i0 i1 → tie.Need-loop-again i0 i1 → tie.Need-returns-2 i0 i1 → statement M
+pub close : {M : Type 1} → (i0 : tie.InvT-loop) → (i1 : tie.MeasureT-loop) → tie.Need-places-requires i0 i1 → tie.Need-loop-holds i0 i1 → tie.Need-shared-slice-read-level i0 i1 → tie.Need-level-fits-requires i0 i1 → tie.Need-returns i0 i1 → tie.Need-join-requires i0 i1 → tie.Need-add-cpu i0 i1 → tie.Need-loop-less i0 i1 → tie.Need-loop-again i0 i1 → tie.Need-returns-2 i0 i1 → statement M
 close i0 i1 a0 a1 a2 a3 a4 a5 a6 a7 a8 a9 =
     tie.close
     (tie.spec

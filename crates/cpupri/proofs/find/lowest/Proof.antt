@@ -37,7 +37,7 @@ returns : tie.Need-returns
 returns c =
     let k = at.returns c in
     let x = k .args in
-    no-level (x .masks .now) (x .words .now) (k .pre .1) (x .below) (x .mask) (k .pre .0) (k .lowest-level .result) (k .marked-below .result) (k .lowest-level .ensures)
+    no-level (x .masks .now) (x .words .now) (k .pre .1 .0) (x .below) (x .mask) (k .pre .0) (k .lowest-level .result) (k .marked-below .result) (k .lowest-level .ensures)
     (k .if1 .taken) (k .marked-below .ensures)
 
 cast : at.Need-cast
@@ -46,8 +46,8 @@ cast c = search needs
 mul : at.Need-mul
 mul c = search needs
 
-element-copy-out : at.Need-element-copy-out
-element-copy-out c = search needs
+shared-slice-read : at.Need-shared-slice-read
+shared-slice-read c = search needs
 
 add-marked-below : tie.Need-add-marked-below
 add-marked-below c = search needs
@@ -60,9 +60,9 @@ unfolding allowedAt
 returns-2 c =
     let k = at.returns-2 c in
     let x = k .args in
-    some-level (x .masks .now) (x .words .now) (k .pre .1) (x .below) (x .mask) (k .pre .0) (k .lowest-level .result) (k .marked-below2 .result) (k .lowest-level .ensures)
+    some-level (x .masks .now) (x .words .now) (k .pre .1 .0) (x .below) (x .mask) (k .pre .0) (k .lowest-level .result) (k .marked-below2 .result) (k .lowest-level .ensures)
     (k .if1 .left) (k .marked-below2 .ensures)
 
 pub lowest-spec : {M : Type 1} → statement M
 lowest-spec =
-    at.close lowest-level-requires marked-below-requires returns cast mul element-copy-out add-marked-below marked-below-requires-2 returns-2
+    at.close lowest-level-requires marked-below-requires returns cast mul shared-slice-read add-marked-below marked-below-requires-2 returns-2

@@ -41,7 +41,7 @@ module _ (c : tie.After-lowest-bit Inv-loop μ-loop) where
       ap (bit (k .loop .active)) place-is ∙ lowest-bit 64 (k .loop .active) (subst (λ (i : ℕ). i < 64) place-is place-lt)
 
 loop-holds : tie.Need-loop-holds Inv-loop μ-loop
-loop-holds c = let k = at.loop-holds c in (k .start .fits .word .fits, k .pre .1)
+loop-holds c = let k = at.loop-holds c in (k .start .fits .word .fits, k .pre .1 .0)
 
 lowest-bit-requires : tie.Need-lowest-bit-requires Inv-loop μ-loop
 lowest-bit-requires c κs = search needs
@@ -62,8 +62,8 @@ returns c =
 mul-if2 : tie.Need-mul-if2 Inv-loop μ-loop
 mul-if2 c = let k = at.mul-if2 c in omega (arith, k .if1 .left, k .pre .0 .1)
 
-element-copy-out-if2 : tie.Need-element-copy-out-if2 Inv-loop μ-loop
-element-copy-out-if2 c = let k = at.element-copy-out-if2 c in omega (arith, k .if1 .left, k .pre .0 .1)
+shared-slice-read-if2 : tie.Need-shared-slice-read-if2 Inv-loop μ-loop
+shared-slice-read-if2 c = let k = at.shared-slice-read-if2 c in omega (arith, k .if1 .left, k .pre .0 .1)
 
 returns-2 : tie.Need-returns-2 Inv-loop μ-loop
 unfolding anyAt allowedAt
@@ -116,4 +116,4 @@ returns-3 c =
 
 pub lowest-in-spec : {M : Type 1} → statement M
 lowest-in-spec =
-    at.close Inv-loop μ-loop loop-holds lowest-bit-requires cast-place add-at returns mul-if2 element-copy-out-if2 returns-2 clear-bit-requires loop-less loop-again returns-3
+    at.close Inv-loop μ-loop loop-holds lowest-bit-requires cast-place add-at returns mul-if2 shared-slice-read-if2 returns-2 clear-bit-requires loop-less loop-again returns-3

@@ -13,8 +13,8 @@ use Rattle.cpupri.proofs.find.marked_below.Tie as tie
 use Rattle.cpupri.proofs.find.marked_below.Proof.Paths as at
 mod Paths
 
-element-copy-out-low-bits : tie.Need-element-copy-out-low-bits
-element-copy-out-low-bits c = search needs
+shared-slice-read-low-bits : tie.Need-shared-slice-read-low-bits
+shared-slice-read-low-bits c = search needs
 
 low-bits-requires : tie.Need-low-bits-requires
 low-bits-requires c κs = search needs
@@ -27,14 +27,14 @@ returns c =
     let k = at.returns c in
     k .count-bits .ensures ∙ ap (weight 64) (k .low-bits .ensures) ∙ count-low (k .args .words .now) (k .args .end) (k .if1 .taken)
 
-element-copy-out-count-bits : tie.Need-element-copy-out-count-bits
-element-copy-out-count-bits c = search needs
+shared-slice-read-count-bits : tie.Need-shared-slice-read-count-bits
+shared-slice-read-count-bits c = search needs
 
 count-bits-requires-2 : tie.Need-count-bits-requires-2
 count-bits-requires-2 c κs = search needs
 
-element-copy-out-low-bits-2 : tie.Need-element-copy-out-low-bits-2
-element-copy-out-low-bits-2 c = search needs
+shared-slice-read-low-bits-2 : tie.Need-shared-slice-read-low-bits-2
+shared-slice-read-low-bits-2 c = search needs
 
 sub-low-bits : tie.Need-sub-low-bits
 sub-low-bits c = search needs
@@ -59,18 +59,18 @@ returns-2 : tie.Need-returns-2
 returns-2 c =
     let k = at.returns-2 c in
     ap₂ _+_ (k .count-bits2 .ensures) (k .count-bits3 .ensures ∙ ap (weight 64) (k .low-bits2 .ensures))
-    ∙ count-high (k .args .words .now) (k .args .end) (omega (arith, k .if1 .left)) (k .pre)
+    ∙ count-high (k .args .words .now) (k .args .end) (omega (arith, k .if1 .left)) (k .pre .0)
 
 pub marked-below-spec : {M : Type 1} → statement M
 marked-below-spec =
     at.close
-    element-copy-out-low-bits
+    shared-slice-read-low-bits
     low-bits-requires
     count-bits-requires
     returns
-    element-copy-out-count-bits
+    shared-slice-read-count-bits
     count-bits-requires-2
-    element-copy-out-low-bits-2
+    shared-slice-read-low-bits-2
     sub-low-bits
     low-bits-requires-2
     count-bits-requires-3

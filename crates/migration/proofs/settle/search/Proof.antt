@@ -118,7 +118,7 @@ module _ (c : tie.Else1 Inv-loop μ-loop) where
 -- ---- the needs
 
 lowest-level-requires : tie.Need-lowest-level-requires Inv-loop μ-loop
-lowest-level-requires c κs = let s = at.lowest-level-requires c .start in (omega arith, words-mark (begins s (lent s) (given s) (counted s)))
+lowest-level-requires c κs = let s = at.lowest-level-requires c .start in (omega arith, (words-mark (begins s (lent s) (given s) (counted s)), (search needs, search needs)))
 
 cast-lowest : tie.Need-cast-lowest Inv-loop μ-loop
 cast-lowest c =

@@ -18,8 +18,8 @@ then1 c = let b = after-mask-fits (c .before) in record { args = b .args; pre = 
 abbrev pub else1 : (c : tie.Else1) → let b = after-mask-fits (c .before) in record { args : typeOf (b .args); pre : typeOf (b .pre); start : typeOf (b .start); mask-fits : typeOf (b .mask-fits); if1 : typeOf (c .if1) }
 else1 c = let b = after-mask-fits (c .before) in record { args = b .args; pre = b .pre; start = b .start; mask-fits = b .mask-fits; if1 = c .if1 }
 
-abbrev pub after-is-consistent : (c : tie.After-is-consistent) → let b = else1 (c .before) in record { args : typeOf (b .args); pre : typeOf (b .pre); start : typeOf (b .start); mask-fits : typeOf (b .mask-fits); if1 : typeOf (b .if1); is-consistent : typeOf (c .is-consistent) }
-after-is-consistent c = let b = else1 (c .before) in record { args = b .args; pre = b .pre; start = b .start; mask-fits = b .mask-fits; if1 = b .if1; is-consistent = c .is-consistent }
+abbrev pub after-is-consistent : (c : tie.After-is-consistent) → let b = else1 (c .before .before .before .before .before) in record { args : typeOf (b .args); pre : typeOf (b .pre); start : typeOf (b .start); mask-fits : typeOf (b .mask-fits); if1 : typeOf (b .if1); is-consistent : typeOf (c .is-consistent) }
+after-is-consistent c = let b = else1 (c .before .before .before .before .before) in record { args = b .args; pre = b .pre; start = b .start; mask-fits = b .mask-fits; if1 = b .if1; is-consistent = c .is-consistent }
 
 abbrev pub then2 : (c : tie.Then2) → let b = after-is-consistent (c .before) in record { args : typeOf (b .args); pre : typeOf (b .pre); start : typeOf (b .start); is-consistent : typeOf (b .is-consistent); if2 : typeOf (c .if2) }
 then2 c = let b = after-is-consistent (c .before) in record { args = b .args; pre = b .pre; start = b .start; is-consistent = b .is-consistent; if2 = c .if2 }
@@ -45,14 +45,17 @@ mask-fits-requires c = start (c .before .before .before .before .before .before 
 abbrev pub returns : (c : tie.Then1) → typeOf (then1 c)
 returns c = then1 c
 
-abbrev pub is-consistent-requires : (c : tie.Else1) → typeOf (else1 c)
-is-consistent-requires c = else1 c
+abbrev pub is-consistent-requires : (c : tie.After-is-consistent-arg4) → typeOf (else1 (c .before .before .before .before))
+is-consistent-requires c = else1 (c .before .before .before .before)
 
 abbrev pub returns-2 : (c : tie.Then2) → typeOf (then2 c)
 returns-2 c = then2 c
 
 abbrev pub returns-3 : (c : tie.Then3) → typeOf (then3 c)
 returns-3 c = then3 c
+
+abbrev pub columns-fit-requires : (c : tie.After-marks2) → typeOf (else3 (c .before .before))
+columns-fit-requires c = else3 (c .before .before)
 
 abbrev pub returns-4 : (c : tie.After-columns-fit) → typeOf (after-columns-fit c)
 returns-4 c = after-columns-fit c

@@ -12,8 +12,8 @@ module _ {i0 : tie.InvT-loop} {i1 : tie.MeasureT-loop} where
   abbrev pub start : (c : tie.Start i0 i1) → record { args : typeOf (c .args); pre : typeOf (c .pre); start : tie.Start i0 i1 }
   start c = record { args = c .args; pre = c .pre; start = c }
 
-  abbrev pub after-lowest-level : (c : tie.After-lowest-level i0 i1) → let b = start (c .before .before .before .before .before .before .before .before .before) in record { args : typeOf (b .args); pre : typeOf (b .pre); start : typeOf (b .start); lowest-level : typeOf (c .lowest-level); after-lowest-level : tie.After-lowest-level i0 i1 }
-  after-lowest-level c = let b = start (c .before .before .before .before .before .before .before .before .before) in record { args = b .args; pre = b .pre; start = b .start; lowest-level = c .lowest-level; after-lowest-level = c }
+  abbrev pub after-lowest-level : (c : tie.After-lowest-level i0 i1) → let b = start (c .before .before .before .before .before .before .before .before .before .before .before) in record { args : typeOf (b .args); pre : typeOf (b .pre); start : typeOf (b .start); lowest-level : typeOf (c .lowest-level); after-lowest-level : tie.After-lowest-level i0 i1 }
+  after-lowest-level c = let b = start (c .before .before .before .before .before .before .before .before .before .before .before) in record { args = b .args; pre = b .pre; start = b .start; lowest-level = c .lowest-level; after-lowest-level = c }
 
   abbrev pub after-fill : (c : tie.After-fill i0 i1) → let b = after-lowest-level (c .before .before .before) in record { args : typeOf (b .args); pre : typeOf (b .pre); start : typeOf (b .start); lowest-level : typeOf (b .lowest-level); after-lowest-level : typeOf (b .after-lowest-level); fill : typeOf (c .fill) }
   after-fill c = let b = after-lowest-level (c .before .before .before) in record { args = b .args; pre = b .pre; start = b .start; lowest-level = b .lowest-level; after-lowest-level = b .after-lowest-level; fill = c .fill }
@@ -42,8 +42,8 @@ module _ {i0 : tie.InvT-loop} {i1 : tie.MeasureT-loop} where
   abbrev pub after-rise : (c : tie.After-rise i0 i1) → let b = after-migrate (c .before .before .before .before .before .before .before .before .before) in record { pre : typeOf (b .pre); start : typeOf (b .start); lowest-level : typeOf (b .lowest-level); loop : typeOf (b .loop); at-loop : typeOf (b .at-loop); pick : typeOf (b .pick); step-of : typeOf (b .step-of); if1 : typeOf (b .if1); note : typeOf (b .note); migrate : typeOf (b .migrate); rise : typeOf (c .rise); rise-last : record { under : List ℕ } }
   after-rise c = let b = after-migrate (c .before .before .before .before .before .before .before .before .before) in record { pre = b .pre; start = b .start; lowest-level = b .lowest-level; loop = b .loop; at-loop = b .at-loop; pick = b .pick; step-of = b .step-of; if1 = b .if1; note = b .note; migrate = b .migrate; rise = c .rise; rise-last = record { under = c .rise .last .0 } }
 
-  abbrev pub lowest-level-requires : (c : tie.After-lowest-level-arg2 i0 i1) → typeOf (start (c .before .before .before .before .before .before .before .before))
-  lowest-level-requires c = start (c .before .before .before .before .before .before .before .before)
+  abbrev pub lowest-level-requires : (c : tie.After-lowest-level-arg4 i0 i1) → typeOf (start (c .before .before .before .before .before .before .before .before .before .before))
+  lowest-level-requires c = start (c .before .before .before .before .before .before .before .before .before .before)
 
   abbrev pub cast-lowest : (c : tie.After-lowest-level i0 i1) → typeOf (after-lowest-level c)
   cast-lowest c = after-lowest-level c
