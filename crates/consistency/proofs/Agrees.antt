@@ -147,7 +147,7 @@ pub mask-bit : (xs : List ℕ) (l c : ℕ) → c < length xs → bit (maskAt xs 
 unfolding maskAt
 mask-bit xs l c h = bit-packed (λ (x : ℕ). eqb x l) 0 xs c h
 
-mask-lt : (xs : List ℕ) (l : ℕ) → length xs ≡ cpuPlaces → maskAt xs l < 2 ^ 64
+pub mask-lt : (xs : List ℕ) (l : ℕ) → length xs ≡ cpuPlaces → maskAt xs l < 2 ^ 64
 unfolding maskAt
 mask-lt xs l len = subst (λ (k : ℕ). maskAt xs l < 2 ^ k) len (packed-lt (λ (x : ℕ). eqb x l) xs)
 

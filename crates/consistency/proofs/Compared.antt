@@ -16,7 +16,7 @@ use Rattle.bits.proofs.Tests.{and-left, and-right, and-both}
 use Rattle.consistency.specs.Consistent.{same}
 
 -- two tests that pass together are the same test
-both-ways : (a b : Bool) → (a ≡ true → b ≡ true) → (b ≡ true → a ≡ true) → a ≡ b
+pub both-ways : (a b : Bool) → (a ≡ true → b ≡ true) → (b ≡ true → a ≡ true) → a ≡ b
 both-ways true b f g = sym (f refl)
 both-ways false true f g = g refl
 both-ways false false f g = refl
@@ -38,6 +38,21 @@ differ-more d x y = both-ways _ _ there back
         let no-old : d ≡ 0 = eqb-true d 0 (and-left (eqb d 0) (eqb x y) e) in
         let equal : x ≡ y = eqb-true x y (and-right (eqb d 0) (eqb x y) e) in
         eq-eqb (bitOr d (bitXor x y)) 0 (ap₂ bitOr no-old (ap (bitXor x) (sym equal) ∙ xor-self x))
+
+-- no difference, put in or by itself, is the same numbers
+pub no-difference : (x y : ℕ) → bitXor x y ≡ 0 → x ≡ y
+no-difference x y e = omega (arith, e, xor-add-and x y, and-le-l x y, and-le-r x y)
+
+pub same-number : (x y : ℕ) → x ≡ y → bitXor x y ≡ 0
+same-number x y e = ap (bitXor x) (sym e) ∙ xor-self x
+
+pub none-put : (d x y : ℕ) → bitOr d (bitXor x y) ≡ 0 → (d ≡ 0) × (x ≡ y)
+none-put d x y e =
+    let t : (eqb d 0 && eqb x y) ≡ true = sym (differ-more d x y) ∙ eq-eqb (bitOr d (bitXor x y)) 0 e in
+    (eqb-true d 0 (and-left (eqb d 0) (eqb x y) t), eqb-true x y (and-right (eqb d 0) (eqb x y) t))
+
+pub put-none : (d x y : ℕ) → d ≡ 0 → x ≡ y → bitOr d (bitXor x y) ≡ 0
+put-none d x y n e = eqb-true (bitOr d (bitXor x y)) 0 (differ-more d x y ∙ and-both (eqb d 0) (eqb x y) (eq-eqb d 0 n) (eq-eqb x y e))
 
 same-next : (xs ys : List ℕ) (i : ℕ) → i < length xs → i < length ys
     → (same (take i xs) (take i ys) && eqb (getD xs i 0) (getD ys i 0)) ≡ same (take (suc i) xs) (take (suc i) ys)

@@ -3,3 +3,8 @@ pub mod Words
 pub mod Agrees
 pub mod Compared
 pub mod Gathered
+mod Copying
+pub mod Taken
+pub mod CpuBits
+pub mod Numbers
+pub mod Blocks

@@ -1,22 +1,33 @@
-// Whether a record is consistent in itself: one pass over the CPUs gathers the record that their levels
-// determine, and then its four tables are compared with the lent ones.
+// Whether a record is consistent in itself: one pass over the CPUs gathers the counts and words that their levels
+// determine, and takes each CPU out of a copy of the masks. Then the counts and words must be the lent ones, and of
+// the masks nothing may be left.
 ghost use mathlib.Core.Path.{_≡_};
-ghost use mathlib.Core.Bool.{true};
-ghost use Prim.Native.Nat.{_<_, min};
+ghost use Prim.Native.Nat.{ℕ, _+_, _/_, _%_, _^_, _≤_, _<_, min};
 ghost use lib.ListN.{length, getD, set};
-ghost use Rattle.bits.specs.Moments.{old};
-ghost use Rattle.levels.specs.Level.{cpuPlaces, invalid, known};
-ghost use Rattle.levels.specs.Record.{recordOf, Whole};
-ghost use Rattle.levels.specs.Lent.{nowRecord, oldRecord, newRecord};
-ghost use Rattle.consistency.specs.Consistent.{levelFits, levelsFit, invalidFrom, consistent, Sized};
-use compare::same_u8;
+ghost use Rattle.bits.specs.Bit.{withBit};
+ghost use Rattle.bits.specs.Moments.{old, new};
+ghost use Rattle.levels.specs.Level.{levelCount, cpuPlaces};
+ghost use Rattle.levels.specs.Lent.{nowRecord, oldRecord};
+ghost use Rattle.consistency.specs.Consistent.{invalidFrom, same, consistent, Sized};
+ghost use Rattle.consistency.specs.Gathered.{cpuBit, Gathered, Gathers};
+use compare::each_invalid;
+use compare::none_u64;
 use compare::same_u64;
+use copy::copy_u64;
+use eights::alike;
+use eights::all_invalid;
+use eights::same_u8;
 use levels::level::Level;
 use levels::record::CPUS;
 use levels::record::LEVELS;
 use levels::record::WORDS;
 
 mod compare;
+pub mod copy;
+mod eights;
+
+// From here on eight places are left.
+const LAST: usize = 56;
 
 // Whether the masks, counts, words and levels of a record say the same, for n CPUs.
 pub fn is_consistent<'a>(
@@ -29,54 +40,25 @@ pub fn is_consistent<'a>(
     requires { ⌜ Sized (nowRecord masks counts words levels) ⌝ }
     ensures { λ b. ⌜ b ≡ consistent n (oldRecord masks counts words levels) ⌝ }
 {
-    let invalid = Level::INVALID;
-    let mut right_masks = [0; LEVELS];
+    let unused = Level::UNUSED.number as usize;
+    let mut left = [0; LEVELS];
+    copy_u64(masks, &mut left);
     let mut right_counts = [0; LEVELS];
     let mut right_words = [0; WORDS];
-    let mut right_levels = [invalid.number; CPUS];
     if !gather(
-        n,
+        places(n),
         levels,
-        &mut right_masks,
+        &mut left,
         &mut right_counts,
         &mut right_words,
-        &mut right_levels,
     ) {
         return false;
     }
-    same_u64(masks, &right_masks)
+    none_u64(&left)
         & same_u8(counts, &right_counts)
         & same_u64(words, &right_words)
-        & same_u8(levels, &right_levels)
-}
-
-// Whether the levels of the CPUs below n fit. If they do, a record in which every place holds INVALID becomes that
-// of these CPUs at their levels.
-fn gather(
-    n: usize,
-    from: &[u8],
-    masks: &mut [u64; LEVELS],
-    counts: &mut [u8; LEVELS],
-    words: &mut [u64; WORDS],
-    levels: &mut [u8; CPUS],
-) -> bool
-    requires { ⌜ length (now from) ≡ cpuPlaces ⌝ }
-    requires { ⌜ Whole (nowRecord masks counts words levels) ⌝ }
-    requires { ⌜ now levels ≡ invalidFrom 0 (now from) ⌝ }
-    ensures { λ b. ⌜ b ≡ levelsFit n (invalidFrom n (old from)) ⌝ }
-    ensures { λ b. ⌜ (b ≡ true → newRecord masks counts words levels ≡ recordOf (invalidFrom n (old from))) ⌝ }
-{
-    let end = places(n);
-    let mut cpu = 0;
-    while cpu < end {
-        let level = from[cpu];
-        if !level_fits(n, cpu, level) {
-            return false;
-        }
-        join(masks, counts, words, levels, cpu, level);
-        cpu += 1;
-    }
-    true
+        & (counts[unused] == 0)
+        & absent(n, levels)
 }
 
 // How many of a record's places are below n.
@@ -86,41 +68,127 @@ fn places(n: usize) -> usize
     if n < CPUS { n } else { CPUS }
 }
 
-// Whether CPU place `cpu` of a machine of n CPUs may hold this level.
-fn level_fits(n: usize, cpu: usize, level: u8) -> bool
-    ensures { λ b. ⌜ b ≡ levelFits n cpu level ⌝ }
+// Whether all places from n on hold INVALID.
+fn absent(n: usize, levels: &[u8]) -> bool
+    requires { ⌜ length (now levels) ≡ cpuPlaces ⌝ }
+    ensures { λ b. ⌜ b ≡ same (old levels) (invalidFrom n (old levels)) ⌝ }
 {
-    let invalid = Level::INVALID;
-    let unused = Level::UNUSED;
-    if level == invalid.number {
-        return true;
+    let start = places(n);
+    if start <= LAST {
+        return all_invalid(levels, start, LAST);
     }
-    (cpu < n) & ((level as usize) < LEVELS) & (level != unused.number)
+    each_invalid(levels, start)
 }
 
-// A CPU that is at INVALID goes to its level: into the level's mask, count and bit. INVALID has none of them. What
-// `set_level` does too, for a CPU that may be at another level before.
-fn join(
-    masks: &mut [u64; LEVELS],
+// The pass over the CPUs below `end`: eight at a time, and the rest one by one. Whether each is at a level or at INVALID.
+fn gather(
+    end: usize,
+    from: &[u8],
+    left: &mut [u64; LEVELS],
     counts: &mut [u8; LEVELS],
     words: &mut [u64; WORDS],
-    levels: &mut [u8; CPUS],
+) -> bool
+    requires { ⌜ length (now from) ≡ cpuPlaces ⌝ }
+    requires { ⌜ end ≤ cpuPlaces ⌝ }
+    requires { ⌜ Gathered (now from) 0 (now counts) (now words) ⌝ }
+    ensures { λ b. ⌜ Gathers (old from) 0 end b (old left) (new left) (new counts) (new words) ⌝ }
+{
+    let mut cpus = 1;
+    let mut cpu = 0;
+    while cpu + 8 <= end {
+        if !block(cpu, cpus, from, left, counts, words) {
+            return false;
+        }
+        cpus = cpus << 8;
+        cpu += 8;
+    }
+    each(cpu, end, cpus, from, left, counts, words)
+}
+
+// The pass over eight CPUs, the first of them with its bit: idle ones often stand together.
+fn block(
     cpu: usize,
-    level: u8,
-)
-    requires { ⌜ Whole (nowRecord masks counts words levels) ⌝ }
-    requires { ⌜ cpu < cpuPlaces ⌝ }
-    requires { ⌜ getD (now levels) cpu 0 ≡ invalid ⌝ }
-    requires { ⌜ known level ≡ true ⌝ }
-    ensures { λ u. ⌜ newRecord masks counts words levels ≡ recordOf (set (old levels) cpu level) ⌝ }
+    cpus: u64,
+    from: &[u8],
+    left: &mut [u64; LEVELS],
+    counts: &mut [u8; LEVELS],
+    words: &mut [u64; WORDS],
+) -> bool
+    requires { ⌜ length (now from) ≡ cpuPlaces ⌝ }
+    requires { ⌜ ((cpu + 8 ≤ cpuPlaces) × (cpus ≡ cpuBit cpu)) ⌝ }
+    requires { ⌜ Gathered (now from) cpu (now counts) (now words) ⌝ }
+    ensures { λ b. ⌜ Gathers (old from) cpu (cpu + 8) b (old left) (new left) (new counts) (new words) ⌝ }
+{
+    if alike(from, cpu) {
+        return take(cpu, cpus * 255, 8, from, left, counts, words);
+    }
+    each(cpu, cpu + 8, cpus, from, left, counts, words)
+}
+
+// The pass over the CPUs from `start` to before `end`, one by one, with the first one's bit.
+fn each(
+    start: usize,
+    end: usize,
+    first: u64,
+    from: &[u8],
+    left: &mut [u64; LEVELS],
+    counts: &mut [u8; LEVELS],
+    words: &mut [u64; WORDS],
+) -> bool
+    requires { ⌜ length (now from) ≡ cpuPlaces ⌝ }
+    requires { ⌜ ((start ≤ end) × (end ≤ cpuPlaces) × (first ≡ cpuBit start)) ⌝ }
+    requires { ⌜ Gathered (now from) start (now counts) (now words) ⌝ }
+    ensures { λ b. ⌜ Gathers (old from) start end b (old left) (new left) (new counts) (new words) ⌝ }
+{
+    let mut cpus = first;
+    let mut cpu = start;
+    while cpu < end {
+        if !take(cpu, cpus, 1, from, left, counts, words) {
+            return false;
+        }
+        cpus = cpus << 1;
+        cpu += 1;
+    }
+    true
+}
+
+// The next CPUs, `more` of them that are all at one level, and as a mask: out of what is left of its mask, and into its count and bit.
+// INVALID has none of them.
+fn take(
+    cpu: usize,
+    cpus: u64,
+    more: u8,
+    from: &[u8],
+    left: &mut [u64; LEVELS],
+    counts: &mut [u8; LEVELS],
+    words: &mut [u64; WORDS],
+) -> bool
+    requires { ⌜ length (now from) ≡ cpuPlaces ⌝ }
+    requires { ⌜ ((1 ≤ more) × (cpu + more ≤ cpuPlaces) × (cpus + 2 ^ cpu ≡ 2 ^ (cpu + more))) ⌝ }
+    requires { ⌜ ((i : ℕ) → i < more → getD (now from) (cpu + i) 0 ≡ getD (now from) cpu 0) ⌝ }
+    requires { ⌜ Gathered (now from) cpu (now counts) (now words) ⌝ }
+    ensures { λ b. ⌜ Gathers (old from) cpu (cpu + more) b (old left) (new left) (new counts) (new words) ⌝ }
 {
     let invalid = Level::INVALID;
-    if level == invalid.number {
-        return;
+    let level = from[cpu];
+    if (LEVELS as u8) <= level {
+        return level == invalid.number;
     }
     let l = level as usize;
-    masks[l] = bits::set_bit(masks[l], cpu);
-    counts[l] = counts[l] + 1;
-    words[l / 64] = bits::set_bit(words[l / 64], l % 64);
-    levels[cpu] = level;
+    left[l] = std::num::wrapping_sub_u64(left[l], cpus);
+    counts[l] = counts[l] + more;
+    mark(words, l);
+    true
+}
+
+// A level's bit is set.
+fn mark(words: &mut [u64; WORDS], level: usize)
+    requires { ⌜ level < levelCount ⌝ }
+    ensures { λ u. ⌜ new words ≡ set (old words) (level / 64) (withBit (getD (old words) (level / 64) 0) (level % 64)) ⌝ }
+{
+    if level < 64 {
+        words[0] = bits::set_bit(words[0], level);
+    } else {
+        words[1] = bits::set_bit(words[1], level - 64);
+    }
 }

@@ -1,4 +1,3 @@
 -- What the proofs of several functions use.
-mod Copying
 pub mod Records
 pub mod Entries
