@@ -6,14 +6,14 @@ use Prim.Native.Nat.{ℕ, zero, suc, _+_, _-_, _*_, _/_, _%_, _^_, _≤_, _<_, m
 use native.Mathlib.Nat.{not-suc-le-zero, le-of-suc-le-suc, zero-lt-suc, lt-of-lt-of-le, zero-add, suc-add, mod-one}
 use native.Mathlib.Omega.{arith}
 use lib.Arith.{lt-one}
-use lib.Bits.{bitAnd, and-step, and-mask}
+use lib.Bits.{bitAnd, and-step, and-mask, and-self}
 use lib.Dec.{leb, ltb}
 use lib.Count.{ones, ones-step, trailingZeros, under}
 use lib.Pow.{pow-pos}
 use borrow.Author.Tests.{leb-true, leb-false, ltb-true, ltb-false}
-use Rattle.bits.specs.Bit.{bit, digit, first, count, lowest, weight}
-use Rattle.bits.proofs.Digits.{bit-suc, bit-low, digit-bit, digit-lt, rest}
-use Rattle.bits.proofs.Word.{word-ext, bit-of-zero}
+use Rattle.bits.specs.Bit.{bit, digit, withoutBit, first, count, lowest, weight}
+use Rattle.bits.proofs.Digits.{bit-suc, bit-low, bit-rest, digit-bit, digit-lt, rest, put-zero, put-suc}
+use Rattle.bits.proofs.Word.{word-ext, bit-above, bit-of-zero}
 
 -- ---- `first`
 
@@ -186,3 +186,50 @@ lowest-lt k m h ne = go (ltb (lowest k m) k) refl
 pub lowest-at-most : (k m c : ℕ) → bit m c ≡ true → c < k → lowest k m ≤ c
 unfolding lowest
 lowest-at-most k m c t h = first-at-most (bit m) k c t h
+
+-- ---- bits taken away
+
+-- a word without its bits from k on
+pub bit-mod-below : (k m c : ℕ) → c < k → bit (m % 2 ^ k) c ≡ bit m c
+bit-mod-below zero m c h = absurd (not-suc-le-zero h)
+bit-mod-below (suc k) m zero h = ap (λ (x : ℕ). bit x 0) (low-digit m k) ∙ bit-low (bit m 0) (m / 2 % 2 ^ k)
+bit-mod-below (suc k) m (suc c) h =
+    ap (λ (x : ℕ). bit x (suc c)) (low-digit m k) ∙ bit-rest (bit m 0) (m / 2 % 2 ^ k) c ∙ bit-mod-below k (m / 2) c (le-of-suc-le-suc h) ∙ sym (bit-suc m c)
+
+mod-small : (k m : ℕ) → m % 2 ^ k < 2 ^ k
+mod-small zero m = omega (arith, mod-one m)
+mod-small (suc k) m = let half : m / 2 % 2 ^ k < 2 ^ k = mod-small k (m / 2) in omega (arith, low-digit m k, digit-lt (bit m 0), half)
+
+pub bit-mod-above : (k m c : ℕ) → k ≤ c → bit (m % 2 ^ k) c ≡ false
+bit-mod-above k m c h = bit-above k (m % 2 ^ k) c (mod-small k m) h
+
+-- m & (m - 1) is without its lowest bit
+pub and-less : (k m : ℕ) → m < 2 ^ k → 0 < m → bitAnd m (m - 1) ≡ withoutBit m (lowest k m)
+and-less zero m h some = absurd (omega arith)
+and-less (suc k) m h some = go (and-less k (m / 2)) (bit m 0) refl
+  where
+    step : bitAnd m (m - 1) ≡ bitAnd (m / 2) ((m - 1) / 2) * 2 + min (m % 2) ((m - 1) % 2)
+    step = and-step m (m - 1)
+
+    go : (m / 2 < 2 ^ k → 0 < m / 2 → bitAnd (m / 2) (m / 2 - 1) ≡ withoutBit (m / 2) (lowest k (m / 2))) → (b : Bool) → bit m 0 ≡ b
+        → bitAnd m (m - 1) ≡ withoutBit m (lowest (suc k) m)
+    go half-less true e =
+        let odd : m % 2 ≡ 1 = sym (digit-bit m) ∙ ap digit e in
+        let half : (m - 1) / 2 ≡ m / 2 = omega arith in
+        let even : (m - 1) % 2 ≡ 0 = omega arith in
+        let rest-is : bitAnd (m / 2) ((m - 1) / 2) ≡ m / 2 = ap (bitAnd (m / 2)) half ∙ and-self (m / 2) in
+        let low : lowest (suc k) m ≡ 0 = lowest-step k m ∙ ap (λ (b : Bool). cond b zero (suc (lowest k (m / 2)))) e in
+        let put : withoutBit m 0 ≡ 0 + 2 * (m / 2) = put-zero false m in
+        let is : bitAnd m (m - 1) ≡ withoutBit m 0 = omega (arith, step, rest-is, odd, even, put) in
+        is ∙ ap (withoutBit m) (sym low)
+    go half-less false e =
+        let even : m % 2 ≡ 0 = sym (digit-bit m) ∙ ap digit e in
+        let half : (m - 1) / 2 ≡ m / 2 - 1 = omega arith in
+        let small : m / 2 < 2 ^ k = omega arith in
+        let more : 0 < m / 2 = omega arith in
+        let rest-is : bitAnd (m / 2) ((m - 1) / 2) ≡ withoutBit (m / 2) (lowest k (m / 2)) = ap (bitAnd (m / 2)) half ∙ half-less small more in
+        let low : lowest (suc k) m ≡ suc (lowest k (m / 2)) = lowest-step k m ∙ ap (λ (b : Bool). cond b zero (suc (lowest k (m / 2)))) e in
+        let put : withoutBit m (suc (lowest k (m / 2))) ≡ digit (bit m 0) + 2 * withoutBit (m / 2) (lowest k (m / 2)) = put-suc false m (lowest k (m / 2)) in
+        let none : digit (bit m 0) ≡ 0 = ap digit e in
+        let is : bitAnd m (m - 1) ≡ withoutBit m (suc (lowest k (m / 2))) = omega (arith, step, rest-is, even, put, none) in
+        is ∙ ap (withoutBit m) (sym low)

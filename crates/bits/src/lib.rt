@@ -43,6 +43,14 @@ pub fn lowest_bit(m: u64) -> u32
     u64::trailing_zeros(m)
 }
 
+// m with its lowest set bit clear.
+pub fn clear_lowest(m: u64) -> u64
+    requires { ⌜ 0 < m ⌝ }
+    ensures { λ r. ⌜ r ≡ withoutBit m (lowest 64 m) ⌝ }
+{
+    m & (m - 1)
+}
+
 // How many bits of m are set.
 pub fn count_bits(m: u64) -> u32
     ensures { λ r. ⌜ r ≡ weight 64 m ⌝ }

@@ -2,7 +2,7 @@
 -- such level; and as many levels have a CPU as bits are set.
 -- Assumes nothing.
 use mathlib.Core.Path.{_≡_, refl, sym, ap, ap₂, _∙_, subst}
-use mathlib.Core.Bool.{Bool, true, false, not}
+use mathlib.Core.Bool.{Bool, true, false, not, false≢true}
 use mathlib.Core.List.{List}
 use Prim.Native.Nat.{ℕ, _+_, _-_, _/_, _%_, _^_, _≤_, _<_}
 use native.Mathlib.Omega.{arith}
@@ -11,7 +11,7 @@ use lib.Dec.{eqb, ltb}
 use lib.ListN.{getD}
 use borrow.Author.Tests.{eqb-true, eqb-false, eq-eqb, ne-eqb, ltb-true, ltb-false, not-false}
 use Rattle.bits.specs.Bit.{bit, withoutBit, first, count, lowest, weight}
-use Rattle.bits.proofs.Word.{bit-put-other, bit-of-zero}
+use Rattle.bits.proofs.Word.{bit-put-same, bit-put-other, bit-of-zero}
 use Rattle.bits.proofs.Search.{first-is, first-none, first-before, count-cong, count-split, weight-mod}
 use Rattle.bits.proofs.Packed.{packed-none, none-packed}
 use Rattle.levels.specs.Level.{levelCount}
@@ -55,52 +55,70 @@ marked-whole r w = marked-by (r .levels) (masks-are r w) (words-are r w)
 
 -- ---- one word
 
-module _ (masks : List ℕ) (mask base : ℕ) where
+module _ (masks : List ℕ) (mask base below : ℕ) where
+  -- what is left of a word in the search: a level below `below` without a bit has no CPU of the mask, and no other level has a bit
+  pub record Going (word : ℕ) : Type 0 where
+    pub passed : (c : ℕ) → c < 64 → base + c < below → bit word c ≡ false → anyAt masks mask (base + c) ≡ false
+    pub under : (c : ℕ) → c < 64 → bit word c ≡ true → base + c < below
+
+  pub going-first : (word part : ℕ) → below ≤ levelCount → Passed masks mask base word → ((c : ℕ) → c < 64 → base + c < below → bit part c ≡ bit word c)
+      → ((c : ℕ) → c < 64 → below ≤ base + c → bit part c ≡ false) → Going part
+  going-first word part most passed kept cut = record {
+    passed = λ c hc l e. passed c hc (omega arith) (sym (kept c hc l) ∙ e);
+    under = λ c hc e. go c hc e (ltb (base + c) below) refl;
+  }
+    where
+      go : (c : ℕ) → c < 64 → bit part c ≡ true → (b : Bool) → ltb (base + c) below ≡ b → base + c < below
+      go c hc e true t = ltb-true (base + c) below t
+      go c hc e false t = absurd (false≢true (sym (cut c hc (ltb-false (base + c) below t)) ∙ e))
+
   -- the levels below `end` of which no bit is left have no CPU of the mask
-  none-below : (word end : ℕ) → end ≤ levelCount → Passed masks mask base word → ((c : ℕ) → c < 64 → base + c < end → bit word c ≡ false)
+  none-below : (word end : ℕ) → end ≤ below → Going word → ((c : ℕ) → c < 64 → base + c < end → bit word c ≡ false)
       → (k : ℕ) → base ≤ k → k < base + 64 → k < end → anyAt masks mask k ≡ false
-  none-below word end most passed clear k low high h =
+  none-below word end most g clear k low high h =
       let is : base + (k - base) ≡ k = omega arith in
-      ap (anyAt masks mask) (sym is) ∙ passed (k - base) (omega arith) (omega arith) (clear (k - base) (omega arith) (omega arith))
+      ap (anyAt masks mask) (sym is) ∙ g .passed (k - base) (omega arith) (omega arith) (clear (k - base) (omega arith) (omega arith))
 
   before-lowest : (word c : ℕ) → c < lowest 64 word → bit word c ≡ false
   unfolding lowest
   before-lowest word c h = first-before (bit word) 64 c h
 
   -- a level that was looked at is passed
-  pub pass : (word place : ℕ) → Passed masks mask base word → anyAt masks mask (base + place) ≡ false → Passed masks mask base (withoutBit word place)
-  pass word place passed none c hc hl e = go (eqb c place) refl
+  pub pass : (word place : ℕ) → Going word → anyAt masks mask (base + place) ≡ false → Going (withoutBit word place)
+  pass word place g none = record {
+    passed = λ c hc l e. go c hc l e (eqb c place) refl;
+    under = λ c hc e. stays c hc e (eqb c place) refl;
+  }
     where
-      go : (b : Bool) → eqb c place ≡ b → anyAt masks mask (base + c) ≡ false
-      go true q = ap (λ (i : ℕ). anyAt masks mask (base + i)) (eqb-true c place q) ∙ none
-      go false q = passed c hc hl (sym (bit-put-other false word place c (λ i. eqb-false c place q (sym i))) ∙ e)
+      other : (c : ℕ) → eqb c place ≡ false → bit (withoutBit word place) c ≡ bit word c
+      other c q = bit-put-other false word place c (λ i. eqb-false c place q (sym i))
 
-  module _ (below : ℕ) (most : below ≤ levelCount) (word : ℕ) (passed : Passed masks mask base word) where
-    -- the lowest bit's level is not below: none is
-    pub none-in : below ≤ base + lowest 64 word → LowestIn masks mask base below below
-    none-in h =
-        record {
-          most = omega arith;
-          some = λ l. absurd (let no : ⊥ = omega arith in no);
-          none = none-below word below most passed (λ c hc l. before-lowest word c (omega arith));
-        }
+      go : (c : ℕ) → c < 64 → base + c < below → bit (withoutBit word place) c ≡ false → (b : Bool) → eqb c place ≡ b → anyAt masks mask (base + c) ≡ false
+      go c hc l e true q = ap (λ (i : ℕ). anyAt masks mask (base + i)) (eqb-true c place q) ∙ none
+      go c hc l e false q = g .passed c hc l (sym (other c q) ∙ e)
 
+      stays : (c : ℕ) → c < 64 → bit (withoutBit word place) c ≡ true → (b : Bool) → eqb c place ≡ b → base + c < below
+      stays c hc e true q =
+          absurd (false≢true (sym (bit-put-same false word place) ∙ ap (bit (withoutBit word place)) (sym (eqb-true c place q)) ∙ e))
+      stays c hc e false q = g .under c hc (sym (other c q) ∙ e)
+
+  module _ (word : ℕ) (g : Going word) where
     -- no bit is left
     pub none-left : word ≡ 0 → LowestIn masks mask base below below
     none-left z =
         record {
           most = omega arith;
           some = λ l. absurd (let no : ⊥ = omega arith in no);
-          none = none-below word below most passed (λ c hc l. ap (λ (w : ℕ). bit w c) z ∙ bit-of-zero c);
+          none = none-below word below (omega arith) g (λ c hc l. ap (λ (w : ℕ). bit w c) z ∙ bit-of-zero c);
         }
 
-    -- its level has a CPU of the mask
+    -- the lowest bit's level has a CPU of the mask
     pub one-in : lowest 64 word < 64 → base + lowest 64 word < below → anyAt masks mask (base + lowest 64 word) ≡ true → LowestIn masks mask base below (base + lowest 64 word)
     one-in small here any =
         record {
           most = omega arith;
           some = λ l. (omega arith, any);
-          none = none-below word (base + lowest 64 word) (omega arith) passed (λ c hc l. before-lowest word c (omega arith));
+          none = none-below word (base + lowest 64 word) (omega arith) g (λ c hc l. before-lowest word c (omega arith));
         }
 
 -- ---- both words

@@ -1,9 +1,10 @@
 // The lowest-priority search (the kernel's cpupri_find): from one level that has a CPU to the next, by the two words of
 // level bits, until one has an allowed CPU. It reads one mask for each level that has a CPU.
 ghost use mathlib.Core.Path.{_≡_};
-ghost use Prim.Native.Nat.{_≤_};
+ghost use mathlib.Core.Bool.{false};
+ghost use Prim.Native.Nat.{ℕ, _+_, _≤_, _<_};
 ghost use lib.ListN.{length};
-ghost use Rattle.bits.specs.Bit.{count};
+ghost use Rattle.bits.specs.Bit.{bit, count};
 ghost use Rattle.bits.specs.Moments.{old};
 ghost use Rattle.levels.specs.Level.{levelCount, wordCount, cpuPlaces};
 ghost use Rattle.levels.specs.Lent.{nowRecord, oldRecord};
@@ -121,19 +122,30 @@ fn lowest_in(masks: &[u64], word: u64, base: usize, below: usize, mask: u64) -> 
     requires { ⌜ length (now masks) ≡ levelCount ⌝ }
     ensures { λ l. ⌜ LowestIn (old masks) mask base below l ⌝ }
 {
-    let mut active = word;
+    let mut active = levels_below(word, base, below);
     while active != 0 {
-        let place = bits::lowest_bit(active) as usize;
-        let at = base + place;
-        if below <= at {
-            return below;
-        }
+        let at = base + bits::lowest_bit(active) as usize;
         if masks[at] & mask != 0 {
             return at;
         }
-        active = bits::clear_bit(active, place);
+        active = bits::clear_lowest(active);
     }
     below
+}
+
+// The bits of a word, whose levels begin at `base`, for the levels below `below`.
+fn levels_below(word: u64, base: usize, below: usize) -> u64
+    ensures { λ r. ⌜ ((c : ℕ) → c < 64 → base + c < below → bit r c ≡ bit word c) ⌝ }
+    ensures { λ r. ⌜ ((c : ℕ) → c < 64 → below ≤ base + c → bit r c ≡ false) ⌝ }
+{
+    if below <= base {
+        return 0;
+    }
+    let levels = below - base;
+    if BITS <= levels {
+        return word;
+    }
+    bits::low_bits(word, levels)
 }
 
 // How many levels below `end` are marked in the words.
