@@ -8,13 +8,13 @@ use Prim.Native.Nat.{ℕ, zero, suc, _+_, _-_, _≤_, _<_, zero-le, suc-le-suc}
 use native.Mathlib.Nat.{not-suc-le-zero, le-of-suc-le-suc, zero-lt-suc}
 use native.Mathlib.Omega.{arith}
 use lib.Dec.{eqb, leb}
-use lib.ListN.{length, getD, take, replicate, getD-replicate, List·getD-append}
-use lib.Seq.{getD-append-add}
+use lib.ListN.{length, getD, take, drop, replicate, length-drop, getD-replicate, List·getD-append}
+use lib.Seq.{getD-append-add, getD-take, getD-drop, length-take-le}
 use borrow.Author.Tests.{eqb-false, leb-true, leb-false}
 use Rattle.rules.specs.Lists.{In, any, place, insertBefore, delete}
 use Rattle.rules.specs.Machine.{taskPlaces}
 use Rattle.rules.specs.Tables.{nothing, padded}
-use Rattle.laws.proofs.Lists.{in-cons}
+use Rattle.laws.proofs.Lists.{in-cons, in-getD, any-none}
 use Rattle.runqueue.specs.Row.{ahead}
 
 -- ---- where a task stands
@@ -45,6 +45,25 @@ any-more p (x ∷ xs) (suc i) h = go (p x) (any-more p xs i (le-of-suc-le-suc h)
     go : (b : Bool) → any p (take (suc i) xs) ≡ (any p (take i xs) || p (getD xs i 0)) → (b || any p (take (suc i) xs)) ≡ ((b || any p (take i xs)) || p (getD xs i 0))
     go true e = refl
     go false e = e
+
+-- the same of the places from `from` on
+pub any-next : (p : ℕ → Bool) (xs : List ℕ) (from i : ℕ) → from + i < length xs
+    → (any p (take i (drop from xs)) || p (getD xs (from + i) 0)) ≡ any p (take (i + 1) (drop from xs))
+any-next p xs from i h =
+    let next : suc i ≡ i + 1 = omega arith in
+    ap (λ (x : ℕ). any p (take i (drop from xs)) || p x) (sym (getD-drop from xs i 0))
+    ∙ sym (any-more p (drop from xs) i (omega (arith, length-drop from xs)))
+    ∙ ap (λ (k : ℕ). any p (take k (drop from xs))) next
+
+-- none of them passes it
+pub none-within : (p : ℕ → Bool) (xs : List ℕ) (from size : ℕ) → from + size ≤ length xs → any p (take size (drop from xs)) ≡ false
+    → (k : ℕ) → from ≤ k → k < from + size → p (getD xs k 0) ≡ false
+none-within p xs from size l none k low high =
+    let same : from + (k - from) ≡ k = omega arith in
+    let reach : length (take size (drop from xs)) ≡ size = length-take-le size (drop from xs) (omega (arith, length-drop from xs)) in
+    let here : getD (take size (drop from xs)) (k - from) 0 ≡ getD xs k 0 =
+    getD-take size (drop from xs) (k - from) 0 (omega arith) ∙ getD-drop from xs (k - from) 0 ∙ ap (λ (j : ℕ). getD xs j 0) same in
+    ap p (sym here) ∙ any-none p (take size (drop from xs)) none _ (in-getD (take size (drop from xs)) (k - from) (omega arith))
 
 -- ---- after it leaves
 

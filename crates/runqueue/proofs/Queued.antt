@@ -9,17 +9,17 @@ use native.Mathlib.Nat.{le-antisymm}
 use native.Mathlib.Omega.{arith}
 use lib.Arith.{lt-of-le-ne}
 use lib.Dec.{eqb, ltb, leb}
-use lib.ListN.{length, getD, set, take, drop, length-set, length-drop}
-use lib.Seq.{ext-getD, getD-take, getD-drop, length-take-le}
+use lib.ListN.{length, getD, set, take, drop, length-set}
+use lib.Seq.{ext-getD, getD-take}
 use borrow.Author.Tests.{eqb-false, ltb-true, ltb-false, leb-true, leb-false}
 use Rattle.rules.specs.Lists.{In, any, place, insertBefore, delete}
 use Rattle.rules.specs.Machine.{taskPlaces}
 use Rattle.rules.specs.Tables.{nothing, padded}
-use Rattle.laws.proofs.Lists.{any-none, in-getD, length-delete, length-insert}
+use Rattle.laws.proofs.Lists.{length-delete, length-insert}
 use Rattle.laws.proofs.Order.{place-lt, place-is}
 use Rattle.laws.proofs.Tables.{length-padded}
 use Rattle.runqueue.specs.Row.{HoldsRow, Closed, Opened, block, ahead}
-use Rattle.runqueue.proofs.Places.{place-le, delete-before, delete-after, insert-before, insert-at, insert-after, ahead-le, padded-in, padded-out}
+use Rattle.runqueue.proofs.Places.{place-le, none-within, delete-before, delete-after, insert-before, insert-at, insert-after, ahead-le, padded-in, padded-out}
 use Rattle.runqueue.proofs.Shift.{stored}
 
 module _ (count : ℕ) (xs : List ℕ) (held : HoldsRow count xs) where
@@ -55,12 +55,7 @@ module _ (count : ℕ) (xs : List ℕ) (held : HoldsRow count xs) where
         go true t = leb-true _ _ t
         go false t =
             let inside : place task (take count xs) < from + block = leb-false _ _ t in
-            let k : ℕ = place task (take count xs) - from in
-            let same : from + k ≡ place task (take count xs) = omega arith in
-            let size : length (take block (drop from xs)) ≡ block = length-take-le block (drop from xs) (omega (arith, length-drop from xs)) in
-            let here : getD (take block (drop from xs)) k 0 ≡ task =
-            getD-take block (drop from xs) k 0 (omega arith) ∙ getD-drop from xs k 0 ∙ ap (λ (j : ℕ). getD xs j 0) same ∙ at-place in
-            absurd (eqb-false _ task (any-none (λ u. eqb u task) (take block (drop from xs)) none _ (in-getD (take block (drop from xs)) k (omega arith))) here)
+            absurd (eqb-false _ task (none-within (λ u. eqb u task) xs from block l none _ h inside) at-place)
 
     left-size : suc (length (delete task (take count xs))) ≡ count
     left-size = length-delete task (take count xs) i ∙ held .counted

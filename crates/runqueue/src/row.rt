@@ -14,7 +14,7 @@ pub const PLACES: usize = 512;
 pub const NOTHING: u16 = 65535;
 
 // Places that are looked through at once.
-const BLOCK: usize = 16;
+pub const BLOCK: usize = 16;
 
 // A walk of this many places is no longer than a search.
 const NEAR: usize = 8;

@@ -1,14 +1,13 @@
 -- `runqueue::row::in_block` meets its contract. The loop's invariant: what is found is whether the task stands in the first i places of the block. Assumes nothing.
-use mathlib.Core.Path.{_≡_, refl, sym, ap, ap₂, _∙_}
+use mathlib.Core.Path.{_≡_, refl, ap, _∙_}
 use mathlib.Core.Bool.{Bool, _||_}
-use Prim.Native.Nat.{ℕ, suc, _+_, _-_, _≤_}
+use Prim.Native.Nat.{ℕ, _+_, _-_, _≤_}
 use native.Mathlib.Omega.{arith}
 use lib.Dec.{eqb}
-use lib.ListN.{take, drop, length-drop}
-use lib.Seq.{getD-drop}
+use lib.ListN.{getD, take, drop}
 use Rattle.rules.specs.Lists.{any}
 use Rattle.runqueue.specs.Row.{block}
-use Rattle.runqueue.proofs.Places.{any-more}
+use Rattle.runqueue.proofs.Places.{any-next}
 use Rattle.runqueue.proofs.row.in_block.Statement.{statement}
 use Rattle.runqueue.proofs.row.in_block.Tie as tie
 use Rattle.runqueue.proofs.row.in_block.Proof.Paths as at
@@ -42,15 +41,10 @@ loop-less c = omega arith
 loop-again : tie.Need-loop-again Inv-loop μ-loop
 loop-again c =
     let k = at.loop-again c in
+    let a = k .args in
     let l = k .loop in
-    let rest = drop (k .args .from) (k .args .row .now) in
-    let test : ℕ → Bool = λ u. eqb u (k .args .task) in
-    let next : suc (l .i) ≡ l .i + 1 = omega arith in (
-      omega arith,
-      ap₂ (λ (a b : Bool). a || b) (l .inv .1) (ap test (sym (getD-drop (k .args .from) (k .args .row .now) (l .i) 0)))
-          ∙ sym (any-more test rest (l .i) (omega (arith, length-drop (k .args .from) (k .args .row .now))))
-          ∙ ap (λ (n : ℕ). any test (take n rest)) next,
-    )
+    let test : ℕ → Bool = λ u. eqb u (a .task) in
+    (omega arith, ap (λ (b : Bool). b || test (getD (a .row .now) (a .from + l .i) 0)) (l .inv .1) ∙ any-next test (a .row .now) (a .from) (l .i) (omega arith))
 
 returns : tie.Need-returns Inv-loop μ-loop
 returns c =
