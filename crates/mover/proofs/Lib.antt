@@ -1,2 +1,3 @@
 -- The laws of the search for the mover.
 pub mod Candidates
+pub mod Waiting

@@ -10,3 +10,7 @@ pub record NextWaiting (ks : List ℕ) (from n r : ℕ) : Type 0 where
   pub most : r ≤ n
   pub none : (d : ℕ) → d < r → from ≤ d → getD ks d 0 < 2
   pub some : r < n → 2 ≤ getD ks r 0
+
+-- no task waits on the CPUs from `from` up to r
+abbrev pub NobodyWaits : List ℕ → ℕ → ℕ → Type 0
+NobodyWaits ks from r = (d : ℕ) → d < r → from ≤ d → getD ks d 0 < 2

@@ -2,18 +2,22 @@
 // lowest-numbered CPU, and among those the earliest in its row.
 ghost use mathlib.Core.Path.{_≡_};
 ghost use mathlib.Core.Bool.{false};
-ghost use Prim.Native.Nat.{suc, _-_, _≤_, _<_};
-ghost use lib.ListN.{getD};
+ghost use Prim.Native.Nat.{suc, _+_, _-_, _≤_, _<_};
+ghost use lib.Dec.{leb};
+ghost use lib.ListN.{length, getD, take, drop};
 ghost use Rattle.bits.specs.Moments.{old};
+ghost use Rattle.rules.specs.Lists.{any};
 ghost use Rattle.rules.specs.Machine.{Machine};
 ghost use Rattle.cpupri.specs.Level.{levelOf};
+ghost use Rattle.runqueue.specs.Row.{block};
 ghost use Rattle.mover.specs.Foremost.{Looking, BestOf, OnlyAbove};
-ghost use Rattle.mover.specs.Waiting.{NextWaiting};
+ghost use Rattle.mover.specs.Waiting.{NextWaiting, NobodyWaits};
 ghost use Rattle.mover.specs.Wanted.{Asked, Told, meant, least as leastOf};
 use super::scan::Test;
 use super::scan::scan;
 use cpupri::level::Level;
 use cpupri::record::LEVELS;
+use runqueue::row::BLOCK;
 use runqueue::row::NOTHING;
 use runqueue::row::PLACES;
 
@@ -46,7 +50,7 @@ pub fn pick(
         origin: 0,
         priority: least(test),
     };
-    let mut cpu = next_waiting(counts, 0, n);
+    let mut cpu = first_waiting(counts, n);
     while cpu < n {
         best = better(test, best, cpu, prio, mask, rows, counts, under);
         cpu = next_waiting(counts, cpu + 1, n);
@@ -130,6 +134,49 @@ fn who_above_with(
         task: first,
         several: (one != NOTHING) | (counts[cpu] != 2),
     }
+}
+
+// The first CPU on which a task waits; n if there is none. CPU 0 is asked by itself, which takes fewer instructions where many tasks
+// wait. `pick` alone calls this: with a second caller the compiler would leave it a call.
+fn first_waiting(counts: &[u16], n: usize) -> usize
+    requires { do ⌜ ((0 < n) × (n ≤ (← ⟦counts.len()⟧))) ⌝ }
+    ensures { λ r. ⌜ NextWaiting (old counts) 0 n r ⌝ }
+{
+    if counts[0] >= 2 {
+        return 0;
+    }
+    let from = first_block(counts, n);
+    next_waiting(counts, from, n)
+}
+
+// Where the first block of CPUs starts that has a waiting task, or else those that are no whole block: nobody waits on the CPUs before.
+fn first_block(counts: &[u16], n: usize) -> usize
+    requires { do ⌜ n ≤ (← ⟦counts.len()⟧) ⌝ }
+    ensures { λ r. ⌜ ((r ≤ n) × NobodyWaits (old counts) 0 r) ⌝ }
+{
+    let mut next = 0;
+    while BLOCK <= n - next {
+        if any_waiting(counts, next) {
+            return next;
+        }
+        next += BLOCK;
+    }
+    next
+}
+
+// Whether a task waits on a CPU of the block that starts here. All its CPUs are looked at before it is decided, which the compiler makes
+// many at a time.
+fn any_waiting(counts: &[u16], from: usize) -> bool
+    requires { ⌜ from + block ≤ length (now counts) ⌝ }
+    ensures { λ r. ⌜ r ≡ any (leb 2) (take block (drop from (old counts))) ⌝ }
+{
+    let mut found = false;
+    let mut i = 0;
+    while i < BLOCK {
+        found = found | (counts[from + i] >= 2);
+        i += 1;
+    }
+    found
 }
 
 // The first CPU on which a task waits, from the CPU `from` on; n if there is none.

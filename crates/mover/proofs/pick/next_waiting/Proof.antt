@@ -1,26 +1,22 @@
 -- `mover::pick::next_waiting` meets its contract. The loop's invariant: nobody waits on the CPUs passed.
 -- Assumes nothing.
 use borrow.Author.Needs.{needs}
-use mathlib.Core.Path.{_≡_, refl, ap}
-use mathlib.Core.Bool.{Bool, true, false}
+use mathlib.Core.Path.{_≡_, ap}
 use mathlib.Core.Logic.{_≢_, _⊎_, inl, inr}
 use mathlib.Core.List.{List}
 use Prim.Native.Nat.{ℕ, _+_, _-_, _≤_, _<_}
 use native.Mathlib.Omega.{arith}
-use lib.Dec.{ltb}
 use lib.ListN.{getD}
-use borrow.Author.Tests.{ltb-true, ltb-false}
 use Rattle.laws.proofs.Lists.{same?}
+use Rattle.mover.specs.Waiting.{NobodyWaits}
+use Rattle.mover.proofs.Waiting.{nobody-further}
 use Rattle.mover.proofs.pick.next_waiting.Statement.{statement}
 use Rattle.mover.proofs.pick.next_waiting.Tie as tie
 use Rattle.mover.proofs.pick.next_waiting.Proof.Paths as at
 mod Paths
 
-abbrev Passed : List ℕ → ℕ → ℕ → Type 0
-Passed counts from next = (d : ℕ) → d < next → from ≤ d → getD counts d 0 < 2
-
 abbrev Inv-loop : tie.InvT-loop
-Inv-loop counts from n next₀ next = (from ≤ next) × (next ≤ n) × Passed counts from next
+Inv-loop counts from n next₀ next = (from ≤ next) × (next ≤ n) × NobodyWaits counts from next
 
 abbrev μ-loop : tie.MeasureT-loop
 μ-loop counts from n next₀ next = n - next
@@ -28,28 +24,21 @@ abbrev μ-loop : tie.MeasureT-loop
 none : {d from : ℕ} → d < from → from ≤ d → ⊥
 none l h = omega arith
 
--- one CPU more, and what the rest says besides
-module _ (counts : List ℕ) (from next : ℕ) (passed : Passed counts from next) where
-  one-more : getD counts next 0 < 2 → Passed counts from (next + 1)
+-- one CPU more
+module _ (counts : List ℕ) (from next : ℕ) (passed : NobodyWaits counts from next) where
+  one-more : getD counts next 0 < 2 → NobodyWaits counts from (next + 1)
   one-more a d l h = go (same? d next)
     where
       go : (d ≡ next) ⊎ (d ≢ next) → getD counts d 0 < 2
       go (inl q) = omega (arith, ap (λ (i : ℕ). getD counts i 0) q)
       go (inr n) = passed d (omega arith) h
 
-  two-more : getD counts next 0 < 2 → getD counts (next + 1) 0 < 2 → Passed counts from (next + 2)
+  two-more : getD counts next 0 < 2 → getD counts (next + 1) 0 < 2 → NobodyWaits counts from (next + 2)
   two-more a b d l h = go (same? d (next + 1))
     where
       go : (d ≡ next + 1) ⊎ (d ≢ next + 1) → getD counts d 0 < 2
       go (inl q) = omega (arith, ap (λ (i : ℕ). getD counts i 0) q)
       go (inr n) = one-more a d (omega arith) h
-
-  rest : (r : ℕ) → ((d : ℕ) → d < r → next ≤ d → getD counts d 0 < 2) → Passed counts from r
-  rest r later d l h = go (ltb d next) refl
-    where
-      go : (b : Bool) → ltb d next ≡ b → getD counts d 0 < 2
-      go true e = passed d (ltb-true d next e) h
-      go false e = later d l (ltb-false d next e)
 
 loop-holds : tie.Need-loop-holds Inv-loop μ-loop
 loop-holds c = (omega arith, omega arith, λ d l h. absurd (none l h))
@@ -118,7 +107,7 @@ returns-3 c =
     record {
       low = omega (arith, e .low, l .inv .0);
       most = e .most;
-      none = rest (k .args .counts .now) (k .args .from) (l .next) (l .inv .2) (k .last-waiting .result) (e .none);
+      none = nobody-further (k .args .counts .now) (k .args .from) (l .next) (k .last-waiting .result) (l .inv .2) (e .none);
       some = e .some;
     }
 
