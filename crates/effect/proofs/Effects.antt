@@ -4,7 +4,7 @@ use mathlib.Core.Path.{_≡_, refl, sym, ap, _∙_, subst, subst₂}
 use mathlib.Core.Bool.{Bool, true, false, cond, true≢false}
 use mathlib.Core.List.{List, [], _∷_}
 use mathlib.Core.Logic.{inl, inr}
-use mathlib.Core.Option.{none}
+use mathlib.Core.Option.{none, some}
 use Prim.Native.Nat.{ℕ, _≤_, _<_}
 use types.Run.{OneOf}
 use denote.Enum.Declared.{tagOf}
@@ -14,17 +14,21 @@ use lib.ListN.{length, set, getD}
 use lib.Seq.{set-getD}
 use borrow.Author.Tests.{eq-eqb, ne-eqb}
 use Rattle.levels.specs.declared.record.Record.{Record}
-use Rattle.rules.specs.Machine.{Machine, Task, Column, taskOf, row, store, write, taskPlaces, cpuPlaces}
+use Rattle.rules.specs.Machine.{Machine, Task, Column, taskOf, row, head, running, store, write, taskPlaces, cpuPlaces}
 use Rattle.rules.specs.Events.{Event, effect}
 use Rattle.rules.specs.Migration.{next}
 use Rattle.rules.specs.Plan.{Plan, carried, rewrite, reorder, shift, withSlice, Doable, Carries}
 use Rattle.rules.specs.Refusals.{refusal}
 use Rattle.rules.specs.Tables.{nothing}
 use Rattle.rules.specs.WellFormed.{WellFormed}
+use Rattle.rules.specs.Lists.{In}
+use Rattle.laws.proofs.Apart.{in-row}
 use Rattle.laws.proofs.Effects.{keep-effect}
+use Rattle.laws.proofs.Lists.{in-here}
 use Rattle.laws.proofs.Touched.{limited-settled}
 use Rattle.plans.proofs.Planned.{write-slice}
-use Rattle.plans.specs.Decided.{asTask, asPlan, Named, Runs, firstOf, Shaped, Reorders, Shifts}
+use Rattle.plans.proofs.Plans.{runs}
+use Rattle.plans.specs.Decided.{asTask, asPlan, Named, Runs, firstOf, Shaped, Reorders, Requeues, Shifts}
 use Rattle.plans.specs.declared.plan.Task.{Task as Columns}
 use Rattle.plans.specs.declared.plan.Plan.{Plan as Written}
 use Rattle.plans.specs.declared.plan.Decision.{Decision}
@@ -37,7 +41,7 @@ use Rattle.hinting.specs.Hinted.{candidates, Among}
 use Rattle.hinting.specs.Past.{pastOf, candidatesSince}
 use Rattle.hinting.specs.declared.hint.Candidates.{Candidates}
 use Rattle.hinting.proofs.Events.{event-among}
-use Rattle.queueing.specs.Moved.{Moving, Moved}
+use Rattle.queueing.specs.Moved.{Moving, Running, Moved}
 use Rattle.effect.specs.Effected.{told, Lends, Effected}
 use Rattle.effect.specs.declared.Effect.{Effect}
 
@@ -71,6 +75,22 @@ module _ (q : Written) (t c : ℕ) (τ : Task) where
   reorders-task (inl e) = (ap (λ (p : Plan). p .task) e, ap (λ (p : Plan). p .becomes) e)
   reorders-task (inr (f, e)) = (ap (λ (p : Plan). p .task) e, ap (λ (p : Plan). p .becomes) e)
 
+  pub stays-first : Requeues t c τ (asPlan q) → q .enters ≡ false → asPlan q ≡ rewrite (q .task) (asTask (q .becomes))
+  stays-first (inl e) z = e ∙ ap (λ (p : Plan). rewrite (p .task) (p .becomes)) (sym e)
+  stays-first (inr e) z = absurd (true≢false (sym (ap (λ (p : Plan). p .enters) e) ∙ z))
+
+  pub goes-behind : Requeues t c τ (asPlan q) → q .enters ≡ true → asPlan q ≡ reorder false (q .task) (q .origin) (asTask (q .becomes))
+  goes-behind (inl e) z = absurd (true≢false (sym z ∙ ap (λ (p : Plan). p .enters) e))
+  goes-behind (inr e) z = e ∙ ap (λ (p : Plan). reorder false (p .task) (p .origin) (p .becomes)) (sym e)
+
+  pub requeues-origin : Requeues t c τ (asPlan q) → q .enters ≡ true → q .origin ≡ c
+  requeues-origin (inl e) z = absurd (true≢false (sym z ∙ ap (λ (p : Plan). p .enters) e))
+  requeues-origin (inr e) z = ap (λ (p : Plan). p .origin) e
+
+  pub requeues-task : Requeues t c τ (asPlan q) → (q .task ≡ t) × (asTask (q .becomes) ≡ τ)
+  requeues-task (inl e) = (ap (λ (p : Plan). p .task) e, ap (λ (p : Plan). p .becomes) e)
+  requeues-task (inr e) = (ap (λ (p : Plan). p .task) e, ap (λ (p : Plan). p .becomes) e)
+
   pub stays-in-row : Shifts t c τ (asPlan q) → q .enters ≡ false → asPlan q ≡ rewrite (q .task) (asTask (q .becomes))
   stays-in-row (inl e) z = e ∙ ap (λ (p : Plan). rewrite (p .task) (p .becomes)) (sym e)
   stays-in-row (inr (d, e)) z = absurd (true≢false (sym (ap (λ (p : Plan). p .enters) e) ∙ z))
@@ -87,6 +107,17 @@ module _ (q : Written) (t c : ℕ) (τ : Task) where
 pub place-task : (m : Machine) (e : Event) (q : Written) → Decides m e (Place q) → q .task < taskPlaces
 unfolding Decides
 place-task m e q d = d .1 .doable .task
+
+-- the task that runs on CPU c, which goes on to be runnable with its priority
+pub runs-on : {m : Machine} {c t d u : ℕ} {τ : Columns} {σ : Task} → Runs m c t τ → u < taskPlaces → u ≡ t → d ≡ c → σ .state ≡ taskOf m u .state → σ .prio ≡ taskOf m u .prio
+    → Running m u d σ
+runs-on {m} {c} {t} {d} {u} l h et ed es ep =
+    let r = runs l (subst (λ (x : ℕ). x < taskPlaces) et h) in
+    record {
+      first = ap (running m) ed ∙ ap head (r .1) ∙ ap some (sym et);
+      state = es ∙ ap (λ (x : ℕ). taskOf m x .state) et ∙ in-row m t c (l .formed) (subst (In t) (sym (r .1)) (in-here t (r .0))) .0;
+      prio = ep;
+    }
 
 -- a column in which a task's entry is what it was
 pub unchanged : {xs ys : List ℕ} (t : ℕ) {v : ℕ} → xs ≡ ys → v ≡ getD ys t 0 → xs ≡ set ys t v

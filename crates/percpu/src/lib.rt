@@ -6,7 +6,7 @@ ghost use Prim.Native.Nat.{ℕ, _≤_};
 ghost use Rattle.rules.specs.Machine.{Machine, cpuPlaces};
 ghost use Rattle.rules.specs.Events.{event, tick as tickKind, yield, set-ordinary, take-offline, bring-online};
 ghost use Rattle.rules.specs.Plan.{reorder, withSlice};
-ghost use Rattle.plans.specs.Decided.{Runs, strands, DecidedAs, Shaped, Reorders, asTask};
+ghost use Rattle.plans.specs.Decided.{Runs, strands, DecidedAs, Shaped, Requeues, asTask};
 use plans::plan::Decision;
 use plans::plan::Plan;
 use plans::plan::Task;
@@ -23,7 +23,7 @@ pub fn tick(n: usize, online: u64, full: u16, at: usize, runner: Task, who: u32)
     requires { ⌜ n ≤ cpuPlaces ⌝ }
     ensures { λ r. ⌜ ((m : Machine) (kind a b k : ℕ) → n ≡ m .n → online ≡ m .online → full ≡ m .full → Runs m who at runner
         → DecidedAs tickKind m (event kind who a b k) r) ⌝
-        ∗ ⌜ Shaped (λ p. ((v : ℕ) × Reorders at who (withSlice v (asTask runner)) p)) r ⌝ }
+        ∗ ⌜ Shaped (λ p. ((v : ℕ) × Requeues at who (withSlice v (asTask runner)) p)) r ⌝ }
 {
     let cpu = who as usize;
     if n <= cpu {

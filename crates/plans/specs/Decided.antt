@@ -85,6 +85,10 @@ Shaped s (Online c) = ⊥
 abbrev pub Reorders : ℕ → ℕ → Task → Plan → Type 0
 Reorders t c τ p = (p ≡ rewrite t τ) ⊎ ((f : Bool) × (p ≡ reorder f t c τ))
 
+-- and stays where it is, or goes behind its equals in row c
+abbrev pub Requeues : ℕ → ℕ → Task → Plan → Type 0
+Requeues t c τ p = (p ≡ rewrite t τ) ⊎ (p ≡ reorder false t c τ)
+
 -- and stays where it is, or goes from row c to another
 abbrev pub Shifts : ℕ → ℕ → Task → Plan → Type 0
 Shifts t c τ p = (p ≡ rewrite t τ) ⊎ ((d : ℕ) × (p ≡ shift t c τ d))

@@ -16,7 +16,7 @@ use effect::done;
 use effect::quiet;
 use effect::refused;
 use plans::plan::Decision;
-use queueing::reorder;
+use queueing::requeue;
 
 // Kind 7: the slice of the task that runs is written, and it stays where it is or goes behind its equals.
 pub fn tick(
@@ -55,7 +55,7 @@ pub fn tick(
             if !plan.enters {
                 return quiet();
             }
-            done(reorder(
+            done(requeue(
                 state,
                 prio,
                 cpu,
@@ -68,7 +68,6 @@ pub fn tick(
                 levels,
                 plan.task,
                 plan.origin,
-                plan.front,
             ))
         }
         _ => quiet(),
@@ -105,7 +104,7 @@ pub fn yield_cpu(
     let runner = task_at(state, policy, prio, cpu, slice, mask, at);
     match percpu::yield_cpu(n, online, at, runner, who) {
         Decision::Refused(number) => refused(number),
-        Decision::Place(plan) => done(reorder(
+        Decision::Place(plan) => done(requeue(
             state,
             prio,
             cpu,
@@ -118,7 +117,6 @@ pub fn yield_cpu(
             levels,
             plan.task,
             plan.origin,
-            plan.front,
         )),
         _ => quiet(),
     }

@@ -2,7 +2,6 @@
 -- Assumes nothing.
 use borrow.Author.Needs.{needs}
 use mathlib.Core.Path.{_≡_, ap, ap₂, _∙_}
-use mathlib.Core.Bool.{false}
 use Prim.Native.Nat.{ℕ, _-_}
 use mathlib.Core.Logic.{inl, inr}
 use native.Mathlib.Nat.{suc-ne-zero}
@@ -89,7 +88,7 @@ returns-6 c = (
         replaced (k .shift .ensures ∙ ap (λ (σ : Task). shift (x .at) (x .who) σ (x .who)) (ap₂ withSlice f (l .columns)))
             (ticks-again l (k .if3 .left) (k .if4 .left) (k .if5 .left)),
       ),
-  (_, inr (false, at.returns-6 c .shift .ensures)),
+  (_, inr (at.returns-6 c .shift .ensures)),
 )
 
 pub tick-spec : {M : Type 1} → statement M

@@ -2,7 +2,7 @@
 -- Assumes nothing.
 use borrow.Author.Needs.{needs}
 use mathlib.Core.Path.{_≡_, refl, sym, ap, _∙_, subst}
-use mathlib.Core.Bool.{true}
+use mathlib.Core.Bool.{true, false}
 use Prim.Native.Nat.{ℕ}
 use native.Mathlib.Omega.{arith}
 use borrow.Author.Tests.{not-true, not-false}
@@ -10,13 +10,14 @@ use Rattle.cpupri.specs.Record.{lentRecord}
 use Rattle.rules.specs.Machine.{Machine, Task, taskOf}
 use Rattle.rules.specs.Events.{event, tick}
 use Rattle.rules.specs.Plan.{Plan, reorder, withSlice}
-use Rattle.plans.specs.Decided.{asTask, asPlan, Shaped, Reorders}
+use Rattle.plans.specs.Decided.{asTask, asPlan, Shaped, Requeues}
 use Rattle.plans.specs.declared.plan.Plan.{Plan as Written}
 use Rattle.plans.specs.declared.plan.Decision.the-variants.{Place}
 use Rattle.deciding.specs.Subject.{Decides}
 use Rattle.deciding.proofs.Deciding.{by-kind}
 use Rattle.effect.specs.Effected.{Lends}
-use Rattle.effect.proofs.Effects.{only-nothing, unchanged, sized, columns-are, runs-is, lent-rows, few-cpus, refused-is, nothing-is, moving, placed-is, place-task, written, sliced-is, stays-there, takes-place, reorders-task}
+use Rattle.queueing.specs.Moved.{Running}
+use Rattle.effect.proofs.Effects.{only-nothing, unchanged, sized, columns-are, runs-is, lent-rows, few-cpus, refused-is, nothing-is, moving, placed-is, place-task, written, sliced-is, runs-on, requeues-origin, stays-first, goes-behind, requeues-task}
 use Rattle.ticking.proofs.tick.Statement.{statement}
 use Rattle.ticking.proofs.tick.Tie as tie
 use Rattle.ticking.proofs.tick.Proof.Paths as at
@@ -44,10 +45,10 @@ module _ (c : tie.After-tick) (q : Written) (is : at.after-tick c .tick .result 
   placed : (m : Machine) (a b k : ℕ) → Lent (at.after-tick c .start) m → at.after-tick c .args .n ≡ m .n → at.after-tick c .args .full ≡ m .full → Decides m (event 7 (at.after-tick c .args .who) a b k) (Place q)
   placed m a b k l n f = let v = at.after-tick c in subst (Decides m (event 7 (v .args .who) a b k)) is (right c m a b k l n f)
 
-  shaped : let v = at.after-tick c in (s : ℕ) × Reorders (v .running .result) (v .args .who) (withSlice s (asTask (v .task-at .result))) (asPlan q)
+  shaped : let v = at.after-tick c in (s : ℕ) × Requeues (v .running .result) (v .args .who) (withSlice s (asTask (v .task-at .result))) (asPlan q)
   shaped =
       let v = at.after-tick c in
-      subst (Shaped (λ p. ((s : ℕ) × Reorders (v .running .result) (v .args .who) (withSlice s (asTask (v .task-at .result))) p))) is (v .tick .ensures .1)
+      subst (Shaped (λ p. ((s : ℕ) × Requeues (v .running .result) (v .args .who) (withSlice s (asTask (v .task-at .result))) p))) is (v .tick .ensures .1)
 
   abbrev new : Task
   new = withSlice (shaped .0) (asTask (at.after-tick c .task-at .result))
@@ -56,11 +57,21 @@ module _ (c : tie.After-tick) (q : Written) (is : at.after-tick c .tick .result 
   becomes : (m : Machine) → Lent (at.after-tick c .start) m → asTask (q .becomes) ≡ withSlice (shaped .0) (taskOf m (q .task))
   becomes m l =
       let v = at.after-tick c in
-      let e = reorders-task q (v .running .result) (v .args .who) new (shaped .1) in
+      let e = requeues-task q (v .running .result) (v .args .who) new (shaped .1) in
       e .1 ∙ ap (withSlice (shaped .0)) (columns-are l (v .running .result) (v .task-at .ensures)) ∙ ap (λ (t : ℕ). withSlice (shaped .0) (taskOf m t)) (sym (e .0))
 
-  placed-again : q .enters ≡ true → asPlan q ≡ reorder (q .front) (q .task) (q .origin) (asTask (q .becomes))
-  placed-again z = let v = at.after-tick c in takes-place q (v .running .result) (v .args .who) new (shaped .1) z
+  placed-again : q .enters ≡ true → asPlan q ≡ reorder false (q .task) (q .origin) (asTask (q .becomes))
+  placed-again z = let v = at.after-tick c in goes-behind q (v .running .result) (v .args .who) new (shaped .1) z
+
+  -- it runs there
+  on-cpu : (m : Machine) (l : Lent (at.after-tick c .start) m) (n : at.after-tick c .args .n ≡ m .n) (f : at.after-tick c .args .full ≡ m .full) → q .enters ≡ true
+      → Running m (q .task) (q .origin) (asTask (q .becomes))
+  on-cpu m l n f z =
+      let v = at.after-tick c in
+      let x = becomes m l in
+      runs-on (runs-is l (v .args .who) (v .running .ensures m (lent-rows l n)) (v .task-at .ensures)) (place-task m (event 7 (v .args .who) 0 0 0) q (placed m 0 0 0 l n f))
+      (requeues-task q (v .running .result) (v .args .who) new (shaped .1) .0) (requeues-origin q (v .running .result) (v .args .who) new (shaped .1) z)
+      (ap (λ (τ : Task). τ .state) x) (ap (λ (τ : Task). τ .prio) x)
 
 -- ---- the needs
 
@@ -122,12 +133,12 @@ returns c =
     let is = k .plan .given .1 in
     let v = at.after-tick w in
     sliced-is l (event 7 (k .args .who) a b j) (shaped w q is .0) (placed w q is m a b j l n f)
-    (stays-there q (v .running .result) (v .args .who) (new w q is) (shaped w q is .1) (not-true (q .enters) (k .if1 .taken))) (becomes w q is m l)
+    (stays-first q (v .running .result) (v .args .who) (new w q is) (shaped w q is .1) (not-true (q .enters) (k .if1 .taken))) (becomes w q is m l)
     (written (q .task) (q .becomes .slice) (l .holds .slice)) (k .quiet .ensures)
 
-reorder-requires : tie.Need-reorder-requires
-reorder-requires c κs =
-    let k = at.reorder-requires c in
+requeue-requires : tie.Need-requeue-requires
+requeue-requires c κs =
+    let k = at.requeue-requires c in
     let m = k .pre .0 in
     let l = k .pre .1 .0 in
     let h = l .holds in
@@ -139,8 +150,11 @@ reorder-requires c κs =
       m,
       (
         asTask (q .becomes),
-        moving l e (placed w q is m 0 0 0 l (k .pre .1 .1) (k .pre .1 .2)) (placed-again w q is (not-false (q .enters) (k .if1 .left))) (ap (λ (τ : Task). τ .cpu) x)
-            (unchanged (q .task) (h .state) (ap (λ (τ : Task). τ .state) x)) (unchanged (q .task) (h .prio) (ap (λ (τ : Task). τ .prio) x)),
+        (
+          moving l e (placed w q is m 0 0 0 l (k .pre .1 .1) (k .pre .1 .2)) (placed-again w q is (not-false (q .enters) (k .if1 .left))) (ap (λ (τ : Task). τ .cpu) x)
+              (unchanged (q .task) (h .state) (ap (λ (τ : Task). τ .state) x)) (unchanged (q .task) (h .prio) (ap (λ (τ : Task). τ .prio) x)),
+          on-cpu w q is m l (k .pre .1 .1) (k .pre .1 .2) (not-false (q .enters) (k .if1 .left)),
+        ),
       ),
     )
 
@@ -185,7 +199,7 @@ returns-3 c =
     let state = unchanged t (h .state) (ap (λ (τ : Task). τ .state) x) in
     let prio = unchanged t (h .prio) (ap (λ (τ : Task). τ .prio) x) in
     placed-is l e d s state (unchanged t (h .policy) (ap (λ (τ : Task). τ .policy) x)) prio (written t (q .becomes .slice) (h .slice))
-    (unchanged t (h .mask) (ap (λ (τ : Task). τ .mask) x)) (k .reorder .ensures m (asTask (q .becomes)) (moving l e d s (ap (λ (τ : Task). τ .cpu) x) state prio))
+    (unchanged t (h .mask) (ap (λ (τ : Task). τ .mask) x)) (k .requeue .ensures m (asTask (q .becomes)) (moving l e d s (ap (λ (τ : Task). τ .cpu) x) state prio) (on-cpu w q is m l n f (not-false (q .enters) (k .if1 .left))))
     (k .done .ensures)
 
 returns-4 : tie.Need-returns-4
@@ -198,5 +212,5 @@ returns-4 c =
 pub tick-spec : {M : Type 1} → statement M
 tick-spec =
     at.close running-requires cast-at task-at-requires tick-requires enum-known-number refused-requires enum-known-plan cast-slice mul-slice slice-write-slice quiet-requires
-    same-length same-length-2 same-length-3 same-length-4 returns reorder-requires done-requires quiet-requires-2 returns-2 same-length-9 same-length-10 same-length-11
+    same-length same-length-2 same-length-3 same-length-4 returns requeue-requires done-requires quiet-requires-2 returns-2 same-length-9 same-length-10 same-length-11
     same-length-12 returns-3 returns-4

@@ -14,7 +14,8 @@ use Rattle.plans.specs.declared.plan.Decision.the-variants.{Place}
 use Rattle.deciding.specs.Subject.{Decides}
 use Rattle.deciding.proofs.Deciding.{by-kind}
 use Rattle.effect.specs.Effected.{Lends}
-use Rattle.effect.proofs.Effects.{only-nothing, unchanged, sized, columns-are, runs-is, lent-rows, few-cpus, refused-is, nothing-is, moving, placed-is}
+use Rattle.queueing.specs.Moved.{Running}
+use Rattle.effect.proofs.Effects.{only-nothing, unchanged, sized, columns-are, runs-is, lent-rows, few-cpus, refused-is, nothing-is, moving, placed-is, place-task, runs-on}
 use Rattle.ticking.proofs.yield_cpu.Statement.{statement}
 use Rattle.ticking.proofs.yield_cpu.Tie as tie
 use Rattle.ticking.proofs.yield_cpu.Proof.Paths as at
@@ -47,14 +48,22 @@ module _ (c : tie.After-yield-cpu) (q : Written) (is : at.after-yield-cpu c .yie
       let v = at.after-yield-cpu c in
       subst (Shaped (λ p. p ≡ reorder false (v .running .result) (v .args .who) (asTask (v .task-at .result)))) is (v .yield-cpu .ensures .1)
 
-  shape : asPlan q ≡ reorder (q .front) (q .task) (q .origin) (asTask (q .becomes))
-  shape = shaped ∙ ap (λ (p : Plan). reorder (p .front) (p .task) (p .origin) (p .becomes)) (sym shaped)
+  shape : asPlan q ≡ reorder false (q .task) (q .origin) (asTask (q .becomes))
+  shape = shaped ∙ ap (λ (p : Plan). reorder false (p .task) (p .origin) (p .becomes)) (sym shaped)
 
   -- all columns are what they were
   becomes : (m : Machine) → Lent (at.after-yield-cpu c .start) m → asTask (q .becomes) ≡ taskOf m (q .task)
   becomes m l =
       let v = at.after-yield-cpu c in
       ap (λ (p : Plan). p .becomes) shaped ∙ columns-are l (v .running .result) (v .task-at .ensures) ∙ ap (taskOf m) (sym (ap (λ (p : Plan). p .task) shaped))
+
+  -- it runs there
+  on-cpu : (m : Machine) (l : Lent (at.after-yield-cpu c .start) m) (n : at.after-yield-cpu c .args .n ≡ m .n) → Running m (q .task) (q .origin) (asTask (q .becomes))
+  on-cpu m l n =
+      let v = at.after-yield-cpu c in
+      let x = becomes m l in
+      runs-on (runs-is l (v .args .who) (v .running .ensures m (lent-rows l n)) (v .task-at .ensures)) (place-task m (event 8 (v .args .who) 0 0 0) q (placed m 0 0 0 l n))
+      (ap (λ (p : Plan). p .task) shaped) (ap (λ (p : Plan). p .origin) shaped) (ap (λ (τ : Task). τ .state) x) (ap (λ (τ : Task). τ .prio) x)
 
 -- ---- the needs
 
@@ -79,9 +88,9 @@ refused-requires c κs = search needs
 enum-known-plan : tie.Need-enum-known-plan
 enum-known-plan c = search needs
 
-reorder-requires : tie.Need-reorder-requires
-reorder-requires c κs =
-    let k = at.reorder-requires c in
+requeue-requires : tie.Need-requeue-requires
+requeue-requires c κs =
+    let k = at.requeue-requires c in
     let m = k .pre .0 in
     let l = k .pre .1 .0 in
     let h = l .holds in
@@ -92,8 +101,11 @@ reorder-requires c κs =
       m,
       (
         asTask (q .becomes),
-        moving l (event 8 (k .args .who) 0 0 0) (placed w q is m 0 0 0 l (k .pre .1 .1)) (shape w q is) (ap (λ (τ : Task). τ .cpu) x)
-            (unchanged (q .task) (h .state) (ap (λ (τ : Task). τ .state) x)) (unchanged (q .task) (h .prio) (ap (λ (τ : Task). τ .prio) x)),
+        (
+          moving l (event 8 (k .args .who) 0 0 0) (placed w q is m 0 0 0 l (k .pre .1 .1)) (shape w q is) (ap (λ (τ : Task). τ .cpu) x)
+              (unchanged (q .task) (h .state) (ap (λ (τ : Task). τ .state) x)) (unchanged (q .task) (h .prio) (ap (λ (τ : Task). τ .prio) x)),
+          on-cpu w q is m l (k .pre .1 .1),
+        ),
       ),
     )
 
@@ -135,7 +147,7 @@ returns-2 c =
     let state = unchanged t (h .state) (ap (λ (τ : Task). τ .state) x) in
     let prio = unchanged t (h .prio) (ap (λ (τ : Task). τ .prio) x) in
     placed-is l e d s state (unchanged t (h .policy) (ap (λ (τ : Task). τ .policy) x)) prio (unchanged t (h .slice) (ap (λ (τ : Task). τ .slice) x))
-    (unchanged t (h .mask) (ap (λ (τ : Task). τ .mask) x)) (k .reorder .ensures m (asTask (q .becomes)) (moving l e d s (ap (λ (τ : Task). τ .cpu) x) state prio))
+    (unchanged t (h .mask) (ap (λ (τ : Task). τ .mask) x)) (k .requeue .ensures m (asTask (q .becomes)) (moving l e d s (ap (λ (τ : Task). τ .cpu) x) state prio) (on-cpu w q is m l n))
     (k .done .ensures)
 
 returns-3 : tie.Need-returns-3
@@ -148,5 +160,5 @@ returns-3 c =
 
 pub yield-cpu-spec : {M : Type 1} → statement M
 yield-cpu-spec =
-    at.close running-requires cast-at task-at-requires yield-cpu-requires enum-known-number refused-requires enum-known-plan reorder-requires done-requires quiet-requires returns
+    at.close running-requires cast-at task-at-requires yield-cpu-requires enum-known-number refused-requires enum-known-plan requeue-requires done-requires quiet-requires returns
     same-length-4 same-length-5 same-length-6 returns-2 returns-3

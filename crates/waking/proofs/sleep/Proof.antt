@@ -2,11 +2,12 @@
 -- Assumes nothing.
 use borrow.Author.Needs.{needs}
 use mathlib.Core.Path.{_≡_, refl, sym, ap, _∙_, subst}
+use mathlib.Core.Logic.{_≢_}
 use Prim.Native.Nat.{ℕ, _<_}
 use native.Mathlib.Omega.{arith}
 use lib.ListN.{length}
 use Rattle.cpupri.specs.Record.{lentRecord}
-use Rattle.rules.specs.Machine.{Machine, Task, taskOf, asleep, taskPlaces}
+use Rattle.rules.specs.Machine.{Machine, Task, taskOf, asleep, runnable, taskPlaces}
 use Rattle.rules.specs.Events.{event, sleep}
 use Rattle.rules.specs.Plan.{Plan, leave, withState}
 use Rattle.plans.specs.Decided.{asTask, asPlan, Shaped}
@@ -22,6 +23,9 @@ use Rattle.waking.proofs.sleep.Statement.{statement}
 use Rattle.waking.proofs.sleep.Tie as tie
 use Rattle.waking.proofs.sleep.Proof.Paths as at
 mod Paths
+
+not-runnable : {s : ℕ} → s ≡ asleep → s ≢ runnable
+not-runnable e z = omega arith
 
 -- ---- what was lent, and what was decided
 
@@ -99,8 +103,11 @@ leave-requires c κs =
       m,
       (
         asTask (q .becomes),
-        moving l (event 4 (k .args .who) 0 0 0) (placed w q is m 0 0 0 l) (shape w q is) (ap (λ (τ : Task). τ .cpu) b) (written (q .task) (q .becomes .state) (l .holds .state))
-            (unchanged (q .task) (l .holds .prio) (ap (λ (τ : Task). τ .prio) b)),
+        (
+          moving l (event 4 (k .args .who) 0 0 0) (placed w q is m 0 0 0 l) (shape w q is) (ap (λ (τ : Task). τ .cpu) b) (written (q .task) (q .becomes .state) (l .holds .state))
+              (unchanged (q .task) (l .holds .prio) (ap (λ (τ : Task). τ .prio) b)),
+          not-runnable (ap (λ (τ : Task). τ .state) b),
+        ),
       ),
     )
 
@@ -138,7 +145,7 @@ returns-2 c =
     let prio = unchanged t (h .prio) (ap (λ (τ : Task). τ .prio) x) in
     placed-is l e d (shape w q is) (written t (q .becomes .state) (h .state)) (unchanged t (h .policy) (ap (λ (τ : Task). τ .policy) x)) prio
     (unchanged t (h .slice) (ap (λ (τ : Task). τ .slice) x)) (unchanged t (h .mask) (ap (λ (τ : Task). τ .mask) x))
-    (k .leave .ensures m (asTask (q .becomes)) (moving l e d (shape w q is) (ap (λ (τ : Task). τ .cpu) x) (written t (q .becomes .state) (h .state)) prio)) (k .done .ensures)
+    (k .leave .ensures m (asTask (q .becomes)) (moving l e d (shape w q is) (ap (λ (τ : Task). τ .cpu) x) (written t (q .becomes .state) (h .state)) prio) (not-runnable (ap (λ (τ : Task). τ .state) x))) (k .done .ensures)
 
 returns-3 : tie.Need-returns-3
 returns-3 c =

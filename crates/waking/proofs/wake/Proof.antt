@@ -98,8 +98,11 @@ enter-requires c κs =
       m,
       (
         asTask (q .becomes),
-        moving l (event 3 (k .args .who) 0 0 0) (placed w q is m 0 0 0 l) (shape w q is) (ap (λ (τ : Task). τ .cpu) b) (written (q .task) (q .becomes .state) (l .holds .state))
-            (unchanged (q .task) (l .holds .prio) (ap (λ (τ : Task). τ .prio) b)),
+        (
+          moving l (event 3 (k .args .who) 0 0 0) (placed w q is m 0 0 0 l) (shape w q is) (ap (λ (τ : Task). τ .cpu) b) (written (q .task) (q .becomes .state) (l .holds .state))
+              (unchanged (q .task) (l .holds .prio) (ap (λ (τ : Task). τ .prio) b)),
+          ap (λ (τ : Task). τ .state) b,
+        ),
       ),
     )
 
@@ -137,7 +140,7 @@ returns-2 c =
     let prio = unchanged t (h .prio) (ap (λ (τ : Task). τ .prio) x) in
     placed-is l e d (shape w q is) (written t (q .becomes .state) (h .state)) (unchanged t (h .policy) (ap (λ (τ : Task). τ .policy) x)) prio
     (unchanged t (h .slice) (ap (λ (τ : Task). τ .slice) x)) (unchanged t (h .mask) (ap (λ (τ : Task). τ .mask) x))
-    (k .enter .ensures m (asTask (q .becomes)) (moving l e d (shape w q is) (ap (λ (τ : Task). τ .cpu) x) (written t (q .becomes .state) (h .state)) prio)) (k .done .ensures)
+    (k .enter .ensures m (asTask (q .becomes)) (moving l e d (shape w q is) (ap (λ (τ : Task). τ .cpu) x) (written t (q .becomes .state) (h .state)) prio) (ap (λ (τ : Task). τ .state) x)) (k .done .ensures)
 
 returns-3 : tie.Need-returns-3
 returns-3 c =

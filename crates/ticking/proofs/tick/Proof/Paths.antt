@@ -50,11 +50,11 @@ after-quiet c = let b = then1 (c .before) in record { args = b .args; after-tick
 abbrev pub else1 : (c : tie.Else1) → let b = after-plan (c .before .before .before .before .before) in record { args : typeOf (b .args); pre : typeOf (b .pre); after-tick : typeOf (b .after-tick); plan : typeOf (b .plan); if1 : typeOf (c .if1) }
 else1 c = let b = after-plan (c .before .before .before .before .before) in record { args = b .args; pre = b .pre; after-tick = b .after-tick; plan = b .plan; if1 = c .if1 }
 
-abbrev pub after-reorder : (c : tie.After-reorder) → let b = else1 (c .before .before .before .before .before .before .before .before) in record { args : typeOf (b .args); after-tick : typeOf (b .after-tick); plan : typeOf (b .plan); if1 : typeOf (b .if1); reorder : typeOf (c .reorder) }
-after-reorder c = let b = else1 (c .before .before .before .before .before .before .before .before) in record { args = b .args; after-tick = b .after-tick; plan = b .plan; if1 = b .if1; reorder = c .reorder }
+abbrev pub after-requeue : (c : tie.After-requeue) → let b = else1 (c .before .before .before .before .before .before .before .before) in record { args : typeOf (b .args); after-tick : typeOf (b .after-tick); plan : typeOf (b .plan); if1 : typeOf (b .if1); requeue : typeOf (c .requeue) }
+after-requeue c = let b = else1 (c .before .before .before .before .before .before .before .before) in record { args = b .args; after-tick = b .after-tick; plan = b .plan; if1 = b .if1; requeue = c .requeue }
 
-abbrev pub after-done : (c : tie.After-done) → let b = after-reorder (c .before .before .before .before .before .before .before) in record { args : typeOf (b .args); after-tick : typeOf (b .after-tick); plan : typeOf (b .plan); if1 : typeOf (b .if1); reorder : typeOf (b .reorder); done : typeOf (c .done) }
-after-done c = let b = after-reorder (c .before .before .before .before .before .before .before) in record { args = b .args; after-tick = b .after-tick; plan = b .plan; if1 = b .if1; reorder = b .reorder; done = c .done }
+abbrev pub after-done : (c : tie.After-done) → let b = after-requeue (c .before .before .before .before .before .before .before) in record { args : typeOf (b .args); after-tick : typeOf (b .after-tick); plan : typeOf (b .plan); if1 : typeOf (b .if1); requeue : typeOf (b .requeue); done : typeOf (c .done) }
+after-done c = let b = after-requeue (c .before .before .before .before .before .before .before) in record { args = b .args; after-tick = b .after-tick; plan = b .plan; if1 = b .if1; requeue = b .requeue; done = c .done }
 
 abbrev pub at-match-keys3 : (c : tie.At-match-keys3) → let b = after-tick (c .before) in record { args : typeOf (b .args); tick : typeOf (b .tick); after-tick : typeOf (b .after-tick); match : typeOf (c .match) }
 at-match-keys3 c = let b = after-tick (c .before) in record { args = b .args; tick = b .tick; after-tick = b .after-tick; match = c .match }
@@ -77,8 +77,8 @@ slice-write-slice c = after-plan (c .before .before .before)
 abbrev pub returns : (c : tie.After-quiet) → typeOf (after-quiet c)
 returns c = after-quiet c
 
-abbrev pub reorder-requires : (c : tie.After-reorder-arg7) → typeOf (else1 (c .before .before .before .before .before .before .before))
-reorder-requires c = else1 (c .before .before .before .before .before .before .before)
+abbrev pub requeue-requires : (c : tie.After-requeue-arg7) → typeOf (else1 (c .before .before .before .before .before .before .before))
+requeue-requires c = else1 (c .before .before .before .before .before .before .before)
 
 abbrev pub returns-2 : (c : tie.After-refused) → typeOf (after-refused c)
 returns-2 c = after-refused c
@@ -89,7 +89,7 @@ returns-3 c = after-done c
 abbrev pub returns-4 : (c : tie.After-quiet2) → typeOf (after-quiet2 c)
 returns-4 c = after-quiet2 c
 
-pub close : {M : Type 1} → tie.Need-running-requires → tie.Need-cast-at → tie.Need-task-at-requires → tie.Need-tick-requires → tie.Need-enum-known-number → tie.Need-refused-requires → tie.Need-enum-known-plan → tie.Need-cast-slice → tie.Need-mul-slice → tie.Need-slice-write-slice → tie.Need-quiet-requires → tie.Need-same-length → tie.Need-same-length-2 → tie.Need-same-length-3 → tie.Need-same-length-4 → tie.Need-returns → tie.Need-reorder-requires → tie.Need-done-requires → tie.Need-quiet-requires-2 → tie.Need-returns-2 → tie.Need-same-length-9 → tie.Need-same-length-10 → tie.Need-same-length-11 → tie.Need-same-length-12 → tie.Need-returns-3 → tie.Need-returns-4 → statement M
+pub close : {M : Type 1} → tie.Need-running-requires → tie.Need-cast-at → tie.Need-task-at-requires → tie.Need-tick-requires → tie.Need-enum-known-number → tie.Need-refused-requires → tie.Need-enum-known-plan → tie.Need-cast-slice → tie.Need-mul-slice → tie.Need-slice-write-slice → tie.Need-quiet-requires → tie.Need-same-length → tie.Need-same-length-2 → tie.Need-same-length-3 → tie.Need-same-length-4 → tie.Need-returns → tie.Need-requeue-requires → tie.Need-done-requires → tie.Need-quiet-requires-2 → tie.Need-returns-2 → tie.Need-same-length-9 → tie.Need-same-length-10 → tie.Need-same-length-11 → tie.Need-same-length-12 → tie.Need-returns-3 → tie.Need-returns-4 → statement M
 close a0 a1 a2 a3 a4 a5 a6 a7 a8 a9 a10 a11 a12 a13 a14 a15 a16 a17 a18 a19 a20 a21 a22 a23 a24 a25 =
     tie.close
     (tie.spec

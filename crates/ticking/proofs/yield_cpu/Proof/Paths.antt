@@ -34,11 +34,11 @@ at-match-keys2 c = let b = after-yield-cpu (c .before) in record { args = b .arg
 abbrev pub after-plan : (c : tie.After-plan) → let b = at-match-keys2 (c .before) in record { args : typeOf (b .args); pre : typeOf (b .pre); after-yield-cpu : typeOf (b .after-yield-cpu); plan : typeOf (c .plan) }
 after-plan c = let b = at-match-keys2 (c .before) in record { args = b .args; pre = b .pre; after-yield-cpu = b .after-yield-cpu; plan = c .plan }
 
-abbrev pub after-reorder : (c : tie.After-reorder) → let b = after-plan (c .before .before .before .before .before .before .before .before .before) in record { args : typeOf (b .args); after-yield-cpu : typeOf (b .after-yield-cpu); plan : typeOf (b .plan); reorder : typeOf (c .reorder) }
-after-reorder c = let b = after-plan (c .before .before .before .before .before .before .before .before .before) in record { args = b .args; after-yield-cpu = b .after-yield-cpu; plan = b .plan; reorder = c .reorder }
+abbrev pub after-requeue : (c : tie.After-requeue) → let b = after-plan (c .before .before .before .before .before .before .before .before .before) in record { args : typeOf (b .args); after-yield-cpu : typeOf (b .after-yield-cpu); plan : typeOf (b .plan); requeue : typeOf (c .requeue) }
+after-requeue c = let b = after-plan (c .before .before .before .before .before .before .before .before .before) in record { args = b .args; after-yield-cpu = b .after-yield-cpu; plan = b .plan; requeue = c .requeue }
 
-abbrev pub after-done : (c : tie.After-done) → let b = after-reorder (c .before .before .before .before .before .before .before) in record { args : typeOf (b .args); after-yield-cpu : typeOf (b .after-yield-cpu); plan : typeOf (b .plan); reorder : typeOf (b .reorder); done : typeOf (c .done) }
-after-done c = let b = after-reorder (c .before .before .before .before .before .before .before) in record { args = b .args; after-yield-cpu = b .after-yield-cpu; plan = b .plan; reorder = b .reorder; done = c .done }
+abbrev pub after-done : (c : tie.After-done) → let b = after-requeue (c .before .before .before .before .before .before .before) in record { args : typeOf (b .args); after-yield-cpu : typeOf (b .after-yield-cpu); plan : typeOf (b .plan); requeue : typeOf (b .requeue); done : typeOf (c .done) }
+after-done c = let b = after-requeue (c .before .before .before .before .before .before .before) in record { args = b .args; after-yield-cpu = b .after-yield-cpu; plan = b .plan; requeue = b .requeue; done = c .done }
 
 abbrev pub at-match-keys3 : (c : tie.At-match-keys3) → let b = after-yield-cpu (c .before) in record { args : typeOf (b .args); yield-cpu : typeOf (b .yield-cpu); after-yield-cpu : typeOf (b .after-yield-cpu); match : typeOf (c .match) }
 at-match-keys3 c = let b = after-yield-cpu (c .before) in record { args = b .args; yield-cpu = b .yield-cpu; after-yield-cpu = b .after-yield-cpu; match = c .match }
@@ -55,8 +55,8 @@ task-at-requires c = after-running (c .before)
 abbrev pub yield-cpu-requires : (c : tie.After-task-at) → typeOf (after-task-at c)
 yield-cpu-requires c = after-task-at c
 
-abbrev pub reorder-requires : (c : tie.After-reorder-arg7) → typeOf (after-plan (c .before .before .before .before .before .before .before .before))
-reorder-requires c = after-plan (c .before .before .before .before .before .before .before .before)
+abbrev pub requeue-requires : (c : tie.After-requeue-arg7) → typeOf (after-plan (c .before .before .before .before .before .before .before .before))
+requeue-requires c = after-plan (c .before .before .before .before .before .before .before .before)
 
 abbrev pub returns : (c : tie.After-refused) → typeOf (after-refused c)
 returns c = after-refused c
@@ -67,7 +67,7 @@ returns-2 c = after-done c
 abbrev pub returns-3 : (c : tie.After-quiet) → typeOf (after-quiet c)
 returns-3 c = after-quiet c
 
-pub close : {M : Type 1} → tie.Need-running-requires → tie.Need-cast-at → tie.Need-task-at-requires → tie.Need-yield-cpu-requires → tie.Need-enum-known-number → tie.Need-refused-requires → tie.Need-enum-known-plan → tie.Need-reorder-requires → tie.Need-done-requires → tie.Need-quiet-requires → tie.Need-returns → tie.Need-same-length-4 → tie.Need-same-length-5 → tie.Need-same-length-6 → tie.Need-returns-2 → tie.Need-returns-3 → statement M
+pub close : {M : Type 1} → tie.Need-running-requires → tie.Need-cast-at → tie.Need-task-at-requires → tie.Need-yield-cpu-requires → tie.Need-enum-known-number → tie.Need-refused-requires → tie.Need-enum-known-plan → tie.Need-requeue-requires → tie.Need-done-requires → tie.Need-quiet-requires → tie.Need-returns → tie.Need-same-length-4 → tie.Need-same-length-5 → tie.Need-same-length-6 → tie.Need-returns-2 → tie.Need-returns-3 → statement M
 close a0 a1 a2 a3 a4 a5 a6 a7 a8 a9 a10 a11 a12 a13 a14 a15 =
     tie.close
     (tie.spec
