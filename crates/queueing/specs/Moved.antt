@@ -3,11 +3,12 @@
 -- Assumes nothing.
 use mathlib.Core.Path.{_≡_}
 use mathlib.Core.List.{List}
+use mathlib.Core.Option.{some}
 use Prim.Native.Nat.{ℕ}
 use lib.ListN.{set}
 use Rattle.cpupri.specs.Record.{recordOf}
 use Rattle.levels.specs.declared.record.Record.{Record}
-use Rattle.rules.specs.Machine.{Machine, taskOf, levels}
+use Rattle.rules.specs.Machine.{Machine, Task, taskOf, prioOf, running, levels, runnable}
 use Rattle.rules.specs.Plan.{Plan, carried, Doable}
 use Rattle.rules.specs.Tables.{flatOf, rowCounts}
 use Rattle.rules.specs.WellFormed.{WellFormed}
@@ -28,6 +29,12 @@ pub record Moving (m : Machine) (p : Plan) (ss qs cs flat ns fs : List ℕ) (r :
   pub counts : ns ≡ rowCounts (m .rows)
   pub flags : fs ≡ m .flags
   pub levels : r ≡ recordOf (levels m)
+
+-- task t runs on CPU c, and goes on to be runnable with its priority
+pub record Running (m : Machine) (t c : ℕ) (τ : Task) : Type 0 where
+  pub first : running m c ≡ some t
+  pub state : τ .state ≡ runnable
+  pub prio : τ .prio ≡ prioOf m t
 
 -- the rest is done too; x are the candidates since
 pub record Moved (x : Candidates) (m : Machine) (p : Plan) (cs flat ns : List ℕ) (r : Record) : Type 0 where
