@@ -2,7 +2,7 @@
 ghost use mathlib.Core.Path.{_≡_};
 ghost use Prim.Native.Nat.{ℕ};
 ghost use Rattle.bits.specs.Moments.{old, new};
-ghost use Rattle.levels.specs.Lent.{nowRecord, oldRecord, newRecord};
+ghost use Rattle.levels.specs.Lent.{nowRecord, oldRecord};
 ghost use Rattle.rules.specs.Machine.{Machine};
 ghost use Rattle.rules.specs.Events.{event};
 ghost use Rattle.effect.specs.Effected.{Lends, Effected};
@@ -32,21 +32,20 @@ pub fn tick(
     rows: &mut [u16],
     counts: &mut [u16],
     flags: &[u8],
-    masks: &mut [u64; LEVELS],
-    tallies: &mut [u8; LEVELS],
-    words: &mut [u64; WORDS],
-    levels: &mut [u8; CPUS],
+    masks: &[u64; LEVELS],
+    tallies: &[u8; LEVELS],
+    words: &[u64; WORDS],
+    levels: &[u8; CPUS],
     who: u32,
 ) -> Effect
     requires { let r = nowRecord masks tallies words levels in
         ⌜ ((m : Machine) × (Lends m (now state) (now policy) (now prio) (now cpu) (now slice) (now mask) (now rows) (now counts) (now flags) online r × (n ≡ m .n) × (full ≡ m .full))) ⌝ }
     ensures { λ o. let r = oldRecord masks tallies words levels in
-        let q = newRecord masks tallies words levels in
         ⌜ ((m : Machine) (a b k : ℕ) → Lends m (old state) (old policy) (old prio) (old cpu) (old slice) (old mask) (old rows) (old counts) (old flags) online r → n ≡ m .n → full ≡ m .full →
-        Effected m (event 7 who a b k) o (old state) (old policy) (old prio) (new cpu) (new slice) (old mask) (new rows) (new counts) (old flags) online q) ⌝ }
+        Effected m (event 7 who a b k) o (old state) (old policy) (old prio) (new cpu) (new slice) (old mask) (new rows) (new counts) (old flags) online r) ⌝ }
 {
     let at = running(n, rows, counts, who as usize) as usize;
-    let runner = task_at(state, policy, prio, cpu, slice, mask, at);
+    let runner = task_at(state, policy, prio, cpu, slice, mask, at); // whose tick it is
     match percpu::tick(n, online, full, at, runner, who) {
         Decision::Refused(number) => refused(number),
         Decision::Place(plan) => {
@@ -87,18 +86,17 @@ pub fn yield_cpu(
     rows: &mut [u16],
     counts: &mut [u16],
     flags: &[u8],
-    masks: &mut [u64; LEVELS],
-    tallies: &mut [u8; LEVELS],
-    words: &mut [u64; WORDS],
-    levels: &mut [u8; CPUS],
+    masks: &[u64; LEVELS],
+    tallies: &[u8; LEVELS],
+    words: &[u64; WORDS],
+    levels: &[u8; CPUS],
     who: u32,
 ) -> Effect
     requires { let r = nowRecord masks tallies words levels in
         ⌜ ((m : Machine) × (Lends m (now state) (now policy) (now prio) (now cpu) (now slice) (now mask) (now rows) (now counts) (now flags) online r × (n ≡ m .n))) ⌝ }
     ensures { λ o. let r = oldRecord masks tallies words levels in
-        let q = newRecord masks tallies words levels in
         ⌜ ((m : Machine) (a b k : ℕ) → Lends m (old state) (old policy) (old prio) (old cpu) (old slice) (old mask) (old rows) (old counts) (old flags) online r → n ≡ m .n →
-        Effected m (event 8 who a b k) o (old state) (old policy) (old prio) (new cpu) (old slice) (old mask) (new rows) (new counts) (old flags) online q) ⌝ }
+        Effected m (event 8 who a b k) o (old state) (old policy) (old prio) (new cpu) (old slice) (old mask) (new rows) (new counts) (old flags) online r) ⌝ }
 {
     let at = running(n, rows, counts, who as usize) as usize;
     let runner = task_at(state, policy, prio, cpu, slice, mask, at);

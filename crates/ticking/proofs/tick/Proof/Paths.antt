@@ -50,8 +50,8 @@ after-quiet c = let b = then1 (c .before) in record { args = b .args; after-tick
 abbrev pub else1 : (c : tie.Else1) → let b = after-plan (c .before .before .before .before .before) in record { args : typeOf (b .args); pre : typeOf (b .pre); after-tick : typeOf (b .after-tick); plan : typeOf (b .plan); if1 : typeOf (c .if1) }
 else1 c = let b = after-plan (c .before .before .before .before .before) in record { args = b .args; pre = b .pre; after-tick = b .after-tick; plan = b .plan; if1 = c .if1 }
 
-abbrev pub after-requeue : (c : tie.After-requeue) → let b = else1 (c .before .before .before .before .before .before .before .before) in record { args : typeOf (b .args); after-tick : typeOf (b .after-tick); plan : typeOf (b .plan); if1 : typeOf (b .if1); requeue : typeOf (c .requeue) }
-after-requeue c = let b = else1 (c .before .before .before .before .before .before .before .before) in record { args = b .args; after-tick = b .after-tick; plan = b .plan; if1 = b .if1; requeue = c .requeue }
+abbrev pub after-requeue : (c : tie.After-requeue) → let b = else1 (c .before .before .before .before) in record { args : typeOf (b .args); after-tick : typeOf (b .after-tick); plan : typeOf (b .plan); if1 : typeOf (b .if1); requeue : typeOf (c .requeue) }
+after-requeue c = let b = else1 (c .before .before .before .before) in record { args = b .args; after-tick = b .after-tick; plan = b .plan; if1 = b .if1; requeue = c .requeue }
 
 abbrev pub after-done : (c : tie.After-done) → let b = after-requeue (c .before .before .before .before .before .before .before) in record { args : typeOf (b .args); after-tick : typeOf (b .after-tick); plan : typeOf (b .plan); if1 : typeOf (b .if1); requeue : typeOf (b .requeue); done : typeOf (c .done) }
 after-done c = let b = after-requeue (c .before .before .before .before .before .before .before) in record { args = b .args; after-tick = b .after-tick; plan = b .plan; if1 = b .if1; requeue = b .requeue; done = c .done }
@@ -77,8 +77,8 @@ slice-write-slice c = after-plan (c .before .before .before)
 abbrev pub returns : (c : tie.After-quiet) → typeOf (after-quiet c)
 returns c = after-quiet c
 
-abbrev pub requeue-requires : (c : tie.After-requeue-arg7) → typeOf (else1 (c .before .before .before .before .before .before .before))
-requeue-requires c = else1 (c .before .before .before .before .before .before .before)
+abbrev pub requeue-requires : (c : tie.After-requeue-arg3) → typeOf (else1 (c .before .before .before))
+requeue-requires c = else1 (c .before .before .before)
 
 abbrev pub returns-2 : (c : tie.After-refused) → typeOf (after-refused c)
 returns-2 c = after-refused c

@@ -34,8 +34,8 @@ at-match-keys2 c = let b = after-yield-cpu (c .before) in record { args = b .arg
 abbrev pub after-plan : (c : tie.After-plan) → let b = at-match-keys2 (c .before) in record { args : typeOf (b .args); pre : typeOf (b .pre); after-yield-cpu : typeOf (b .after-yield-cpu); plan : typeOf (c .plan) }
 after-plan c = let b = at-match-keys2 (c .before) in record { args = b .args; pre = b .pre; after-yield-cpu = b .after-yield-cpu; plan = c .plan }
 
-abbrev pub after-requeue : (c : tie.After-requeue) → let b = after-plan (c .before .before .before .before .before .before .before .before .before) in record { args : typeOf (b .args); after-yield-cpu : typeOf (b .after-yield-cpu); plan : typeOf (b .plan); requeue : typeOf (c .requeue) }
-after-requeue c = let b = after-plan (c .before .before .before .before .before .before .before .before .before) in record { args = b .args; after-yield-cpu = b .after-yield-cpu; plan = b .plan; requeue = c .requeue }
+abbrev pub after-requeue : (c : tie.After-requeue) → let b = after-plan (c .before .before .before .before .before) in record { args : typeOf (b .args); after-yield-cpu : typeOf (b .after-yield-cpu); plan : typeOf (b .plan); requeue : typeOf (c .requeue) }
+after-requeue c = let b = after-plan (c .before .before .before .before .before) in record { args = b .args; after-yield-cpu = b .after-yield-cpu; plan = b .plan; requeue = c .requeue }
 
 abbrev pub after-done : (c : tie.After-done) → let b = after-requeue (c .before .before .before .before .before .before .before) in record { args : typeOf (b .args); after-yield-cpu : typeOf (b .after-yield-cpu); plan : typeOf (b .plan); requeue : typeOf (b .requeue); done : typeOf (c .done) }
 after-done c = let b = after-requeue (c .before .before .before .before .before .before .before) in record { args = b .args; after-yield-cpu = b .after-yield-cpu; plan = b .plan; requeue = b .requeue; done = c .done }
@@ -55,8 +55,8 @@ task-at-requires c = after-running (c .before)
 abbrev pub yield-cpu-requires : (c : tie.After-task-at) → typeOf (after-task-at c)
 yield-cpu-requires c = after-task-at c
 
-abbrev pub requeue-requires : (c : tie.After-requeue-arg7) → typeOf (after-plan (c .before .before .before .before .before .before .before .before))
-requeue-requires c = after-plan (c .before .before .before .before .before .before .before .before)
+abbrev pub requeue-requires : (c : tie.After-requeue-arg3) → typeOf (after-plan (c .before .before .before .before))
+requeue-requires c = after-plan (c .before .before .before .before)
 
 abbrev pub returns : (c : tie.After-refused) → typeOf (after-refused c)
 returns c = after-refused c
