@@ -8,7 +8,7 @@ use hinting::hint::Candidates;
 use rules::answer::ACCEPTED;
 use runqueue::row::NOTHING;
 
-// The answer, 0 or a refusal, which changes nothing; and the candidates, if nobody could move before. (In this order the three are one word.)
+// The answer, 0 or a refusal, which changes nothing; and the candidates, if nobody could move before.
 pub struct Effect {
     pub fallen: usize,
     pub new: u16,
