@@ -1,4 +1,4 @@
--- The places of `ticking::tick` by name, and its needs that are plumbing. Written by `paths ticking`: not to be edited.
+-- The places of `ticking::tick` by name, and its needs that are plumbing. Written by `scripts/paths ticking`: not to be edited.
 -- Assumes nothing.
 use borrow.Author.Needs.{needs}
 use mathlib.Core.Path.{refl}

@@ -1,4 +1,4 @@
--- The places of `ticking::yield_cpu` by name, and its needs that are plumbing. Written by `paths ticking`: not to be edited.
+-- The places of `ticking::yield_cpu` by name, and its needs that are plumbing. Written by `scripts/paths ticking`: not to be edited.
 -- Assumes nothing.
 use mathlib.Core.Path.{refl}
 use Rattle.ticking.proofs.yield_cpu.Statement.{statement}
