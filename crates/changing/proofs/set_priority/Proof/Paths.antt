@@ -1,4 +1,4 @@
--- The places of `changing::set_priority` by name, and its needs that are plumbing. Written by `paths changing`: not to be edited.
+-- The places of `changing::set_priority` by name, and its needs that are plumbing. Written by `scripts/paths changing`: not to be edited.
 -- Assumes nothing.
 use borrow.Author.Needs.{needs}
 use mathlib.Core.Path.{refl}

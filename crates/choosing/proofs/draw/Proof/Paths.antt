@@ -1,4 +1,4 @@
--- The places of `choosing::draw` by name, and its needs that are plumbing. Written by `paths choosing`: not to be edited.
+-- The places of `choosing::draw` by name, and its needs that are plumbing. Written by `scripts/paths choosing`: not to be edited.
 -- Assumes nothing.
 use Rattle.choosing.proofs.draw.Statement.{statement}
 use Rattle.choosing.proofs.draw.Tie as tie

@@ -1,4 +1,4 @@
--- The places of `deciding::decide` by name, and its needs that are plumbing. Written by `paths deciding`: not to be edited.
+-- The places of `deciding::decide` by name, and its needs that are plumbing. Written by `scripts/paths deciding`: not to be edited.
 -- Assumes nothing.
 use Rattle.deciding.proofs.decide.Statement.{statement}
 use Rattle.deciding.proofs.decide.Tie as tie

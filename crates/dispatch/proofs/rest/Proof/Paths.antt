@@ -1,4 +1,4 @@
--- The places of `dispatch::rest` by name, and its needs that are plumbing. Written by `paths dispatch`: not to be edited.
+-- The places of `dispatch::rest` by name, and its needs that are plumbing. Written by `scripts/paths dispatch`: not to be edited.
 -- Assumes nothing.
 use mathlib.Core.Path.{refl}
 use Rattle.dispatch.proofs.rest.Statement.{statement}

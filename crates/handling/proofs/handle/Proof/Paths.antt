@@ -1,4 +1,4 @@
--- The places of `handling::handle` by name, and its needs that are plumbing. Written by `paths handling`: not to be edited.
+-- The places of `handling::handle` by name, and its needs that are plumbing. Written by `scripts/paths handling`: not to be edited.
 -- Assumes nothing.
 use mathlib.Core.Path.{_∙_}
 use mathlib.Core.List.{List}

@@ -1,4 +1,4 @@
--- The places of `queueing::leave` by name, and its needs that are plumbing. Written by `paths queueing`: not to be edited.
+-- The places of `queueing::leave` by name, and its needs that are plumbing. Written by `scripts/paths queueing`: not to be edited.
 -- Assumes nothing.
 use Rattle.queueing.proofs.leave.Statement.{statement}
 use Rattle.queueing.proofs.leave.Tie as tie

@@ -1,4 +1,4 @@
--- The places of `queueing::reorder` by name, and its needs that are plumbing. Written by `paths queueing`: not to be edited.
+-- The places of `queueing::reorder` by name, and its needs that are plumbing. Written by `scripts/paths queueing`: not to be edited.
 -- Assumes nothing.
 use mathlib.Core.Path.{_∙_}
 use Rattle.queueing.proofs.reorder.Statement.{statement}

@@ -1,4 +1,4 @@
--- The places of `waking::sleep` by name, and its needs that are plumbing. Written by `paths waking`: not to be edited.
+-- The places of `waking::sleep` by name, and its needs that are plumbing. Written by `scripts/paths waking`: not to be edited.
 -- Assumes nothing.
 use borrow.Author.Needs.{needs}
 use Rattle.waking.proofs.sleep.Statement.{statement}

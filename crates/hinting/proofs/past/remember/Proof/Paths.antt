@@ -1,4 +1,4 @@
--- The places of `hinting::past::remember` by name, and its needs that are plumbing. Written by `paths hinting`: not to be edited.
+-- The places of `hinting::past::remember` by name, and its needs that are plumbing. Written by `scripts/paths hinting`: not to be edited.
 -- Assumes nothing.
 use Rattle.hinting.proofs.past.remember.Statement.{statement}
 use Rattle.hinting.proofs.past.remember.Tie as tie
