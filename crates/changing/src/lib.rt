@@ -38,11 +38,14 @@ pub fn set_priority(
     b: u32,
 ) -> Effect
     requires { let r = nowRecord masks tallies words levels in
-        ⌜ ((m : Machine) × Lends m (now state) (now policy) (now prio) (now cpu) (now slice) (now mask) (now rows) (now counts) (now flags) (m .online) r) ⌝ }
+        ⌜ ((m : Machine) × Lends m (now state) (now policy) (now prio) (now cpu) (now slice) (now mask)
+        (now rows) (now counts) (now flags) (m .online) r) ⌝ }
     ensures { λ o. let r = oldRecord masks tallies words levels in
         let q = newRecord masks tallies words levels in
-        ⌜ ((m : Machine) (a k : ℕ) → Lends m (old state) (old policy) (old prio) (old cpu) (old slice) (old mask) (old rows) (old counts) (old flags) (m .online) r →
-        Effected m (event 5 who a b k) o (old state) (old policy) (new prio) (new cpu) (old slice) (old mask) (new rows) (new counts) (old flags) (m .online) q) ⌝ }
+        ⌜ ((m : Machine) (a k : ℕ) → Lends m (old state) (old policy) (old prio) (old cpu) (old slice) (old mask)
+        (old rows) (old counts) (old flags) (m .online) r →
+        Effected m (event 5 who a b k) o (old state) (old policy) (new prio) (new cpu) (old slice) (old mask)
+        (new rows) (new counts) (old flags) (m .online) q) ⌝ }
 {
     let named = task_at(state, policy, prio, cpu, slice, mask, who as usize);
     match change::set_priority(named, who, b) {
@@ -106,11 +109,14 @@ pub fn set_affinity(
     k: u64,
 ) -> Effect
     requires { let r = nowRecord masks tallies words levels in
-        ⌜ ((m : Machine) × (Lends m (now state) (now policy) (now prio) (now cpu) (now slice) (now mask) (now rows) (now counts) (now flags) online r × (n ≡ m .n))) ⌝ }
+        ⌜ ((m : Machine) × (Lends m (now state) (now policy) (now prio) (now cpu) (now slice) (now mask)
+        (now rows) (now counts) (now flags) online r × (n ≡ m .n))) ⌝ }
     ensures { λ o. let r = oldRecord masks tallies words levels in
         let q = newRecord masks tallies words levels in
-        ⌜ ((m : Machine) (a b : ℕ) → Lends m (old state) (old policy) (old prio) (old cpu) (old slice) (old mask) (old rows) (old counts) (old flags) online r → n ≡ m .n →
-        Effected m (event 6 who a b k) o (old state) (old policy) (old prio) (new cpu) (old slice) (new mask) (new rows) (new counts) (old flags) online q) ⌝ }
+        ⌜ ((m : Machine) (a b : ℕ) → Lends m (old state) (old policy) (old prio) (old cpu) (old slice) (old mask)
+        (old rows) (old counts) (old flags) online r → n ≡ m .n →
+        Effected m (event 6 who a b k) o (old state) (old policy) (old prio) (new cpu) (old slice) (new mask)
+        (new rows) (new counts) (old flags) online q) ⌝ }
 {
     let named = task_at(state, policy, prio, cpu, slice, mask, who as usize);
     match change::set_affinity(n, online, named, who, k) {

@@ -50,11 +50,14 @@ pub fn effect(
     k: u64,
 ) -> Effect
     requires { let r = nowRecord masks tallies words levels in
-        ⌜ ((m : Machine) × (Lends m (now state) (now policy) (now prio) (now cpu) (now slice) (now mask) (now rows) (now counts) (now flags) (now online) r × (n ≡ m .n) × (full ≡ m .full))) ⌝ }
+        ⌜ ((m : Machine) × (Lends m (now state) (now policy) (now prio) (now cpu) (now slice) (now mask)
+        (now rows) (now counts) (now flags) (now online) r × (n ≡ m .n) × (full ≡ m .full))) ⌝ }
     ensures { λ o. let r = oldRecord masks tallies words levels in
         let q = newRecord masks tallies words levels in
-        ⌜ ((m : Machine) → Lends m (old state) (old policy) (old prio) (old cpu) (old slice) (old mask) (old rows) (old counts) (old flags) (old online) r → n ≡ m .n → full ≡ m .full
-        → Effected m (event kind who a b k) o (new state) (new policy) (new prio) (new cpu) (new slice) (new mask) (new rows) (new counts) (new flags) (new online) q) ⌝ }
+        ⌜ ((m : Machine) → Lends m (old state) (old policy) (old prio) (old cpu) (old slice) (old mask)
+        (old rows) (old counts) (old flags) (old online) r → n ≡ m .n → full ≡ m .full
+        → Effected m (event kind who a b k) o (new state) (new policy) (new prio) (new cpu) (new slice) (new mask)
+        (new rows) (new counts) (new flags) (new online) q) ⌝ }
 {
     match kind {
         3 => wake(
@@ -215,11 +218,14 @@ fn rest(
 ) -> Effect
     requires { ⌜ Rare kind ⌝ }
     requires { let r = nowRecord masks tallies words levels in
-        ⌜ ((m : Machine) × (Lends m (now state) (now policy) (now prio) (now cpu) (now slice) (now mask) (now rows) (now counts) (now flags) (now online) r × (n ≡ m .n) × (full ≡ m .full))) ⌝ }
+        ⌜ ((m : Machine) × (Lends m (now state) (now policy) (now prio) (now cpu) (now slice) (now mask)
+        (now rows) (now counts) (now flags) (now online) r × (n ≡ m .n) × (full ≡ m .full))) ⌝ }
     ensures { λ o. let r = oldRecord masks tallies words levels in
         let q = newRecord masks tallies words levels in
-        ⌜ ((m : Machine) → Lends m (old state) (old policy) (old prio) (old cpu) (old slice) (old mask) (old rows) (old counts) (old flags) (old online) r → n ≡ m .n → full ≡ m .full
-        → Effected m (event kind who a b k) o (new state) (new policy) (new prio) (new cpu) (new slice) (new mask) (new rows) (new counts) (new flags) (new online) q) ⌝ }
+        ⌜ ((m : Machine) → Lends m (old state) (old policy) (old prio) (old cpu) (old slice) (old mask)
+        (old rows) (old counts) (old flags) (old online) r → n ≡ m .n → full ≡ m .full
+        → Effected m (event kind who a b k) o (new state) (new policy) (new prio) (new cpu) (new slice) (new mask)
+        (new rows) (new counts) (new flags) (new online) q) ⌝ }
 {
     let up = *online;
     let stranding = strands(n, up, mask, rows, counts, kind, who);

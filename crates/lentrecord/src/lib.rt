@@ -53,7 +53,8 @@ pub fn load(
     to_levels: &mut [u8],
 )
     requires { ⌜ recordLengthsFit (length (now masks)) (length (now counts)) (length (now words)) (length (now levels)) ≡ true ⌝ }
-    requires { ⌜ recordLengthsFit (length (now «to_masks»)) (length (now «to_counts»)) (length (now «to_words»)) (length (now «to_levels»)) ≡ true ⌝ }
+    requires { ⌜ recordLengthsFit (length (now «to_masks»)) (length (now «to_counts»))
+        (length (now «to_words»)) (length (now «to_levels»)) ≡ true ⌝ }
     ensures { λ u. ⌜ newRecord «to_masks» «to_counts» «to_words» «to_levels» ≡ oldRecord masks counts words levels ⌝ }
 {
     copy_u64(masks, to_masks);

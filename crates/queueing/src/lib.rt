@@ -173,7 +173,8 @@ pub fn reorder(
     front: bool,
 ) -> Candidates
     requires { let r = nowRecord masks tallies words levels in
-        ⌜ ((m : Machine) × ((τ : Task) × Moving m (reordering front task home τ) (now state) (now prio) (now cpu) (now rows) (now counts) (now flags) r)) ⌝ }
+        ⌜ ((m : Machine) × ((τ : Task) × Moving m (reordering front task home τ) (now state) (now prio) (now cpu)
+        (now rows) (now counts) (now flags) r)) ⌝ }
     ensures { λ few. let r = oldRecord masks tallies words levels in
         let q = newRecord masks tallies words levels in
         ⌜ ((m : Machine) (τ : Task) → let p = reordering front task home τ in
@@ -215,7 +216,8 @@ pub fn shift(
     target: usize,
 ) -> Candidates
     requires { let r = nowRecord masks tallies words levels in
-        ⌜ ((m : Machine) × ((τ : Task) × Moving m (shifting task origin τ target) (now state) (now prio) (now cpu) (now rows) (now counts) (now flags) r)) ⌝ }
+        ⌜ ((m : Machine) × ((τ : Task) × Moving m (shifting task origin τ target) (now state) (now prio) (now cpu)
+        (now rows) (now counts) (now flags) r)) ⌝ }
     ensures { λ few. let r = oldRecord masks tallies words levels in
         let q = newRecord masks tallies words levels in
         ⌜ ((m : Machine) (τ : Task) → let p = shifting task origin τ target in

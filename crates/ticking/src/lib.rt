@@ -39,10 +39,13 @@ pub fn tick(
     who: u32,
 ) -> Effect
     requires { let r = nowRecord masks tallies words levels in
-        ⌜ ((m : Machine) × (Lends m (now state) (now policy) (now prio) (now cpu) (now slice) (now mask) (now rows) (now counts) (now flags) online r × (n ≡ m .n) × (full ≡ m .full))) ⌝ }
+        ⌜ ((m : Machine) × (Lends m (now state) (now policy) (now prio) (now cpu) (now slice) (now mask)
+        (now rows) (now counts) (now flags) online r × (n ≡ m .n) × (full ≡ m .full))) ⌝ }
     ensures { λ o. let r = oldRecord masks tallies words levels in
-        ⌜ ((m : Machine) (a b k : ℕ) → Lends m (old state) (old policy) (old prio) (old cpu) (old slice) (old mask) (old rows) (old counts) (old flags) online r → n ≡ m .n → full ≡ m .full →
-        Effected m (event 7 who a b k) o (old state) (old policy) (old prio) (new cpu) (new slice) (old mask) (new rows) (new counts) (old flags) online r) ⌝ }
+        ⌜ ((m : Machine) (a b k : ℕ) → Lends m (old state) (old policy) (old prio) (old cpu) (old slice) (old mask)
+        (old rows) (old counts) (old flags) online r → n ≡ m .n → full ≡ m .full →
+        Effected m (event 7 who a b k) o (old state) (old policy) (old prio) (new cpu) (new slice) (old mask)
+        (new rows) (new counts) (old flags) online r) ⌝ }
 {
     let at = running(n, rows, counts, who as usize) as usize;
     let runner = task_at(state, policy, prio, cpu, slice, mask, at); // whose tick it is
@@ -93,10 +96,13 @@ pub fn yield_cpu(
     who: u32,
 ) -> Effect
     requires { let r = nowRecord masks tallies words levels in
-        ⌜ ((m : Machine) × (Lends m (now state) (now policy) (now prio) (now cpu) (now slice) (now mask) (now rows) (now counts) (now flags) online r × (n ≡ m .n))) ⌝ }
+        ⌜ ((m : Machine) × (Lends m (now state) (now policy) (now prio) (now cpu) (now slice) (now mask)
+        (now rows) (now counts) (now flags) online r × (n ≡ m .n))) ⌝ }
     ensures { λ o. let r = oldRecord masks tallies words levels in
-        ⌜ ((m : Machine) (a b k : ℕ) → Lends m (old state) (old policy) (old prio) (old cpu) (old slice) (old mask) (old rows) (old counts) (old flags) online r → n ≡ m .n →
-        Effected m (event 8 who a b k) o (old state) (old policy) (old prio) (new cpu) (old slice) (old mask) (new rows) (new counts) (old flags) online r) ⌝ }
+        ⌜ ((m : Machine) (a b k : ℕ) → Lends m (old state) (old policy) (old prio) (old cpu) (old slice) (old mask)
+        (old rows) (old counts) (old flags) online r → n ≡ m .n →
+        Effected m (event 8 who a b k) o (old state) (old policy) (old prio) (new cpu) (old slice) (old mask)
+        (new rows) (new counts) (old flags) online r) ⌝ }
 {
     let at = running(n, rows, counts, who as usize) as usize;
     let runner = task_at(state, policy, prio, cpu, slice, mask, at);

@@ -39,8 +39,10 @@ pub fn wake(
         ⌜ ((m : Machine) × Lends m (now state) (now policy) (now prio) (now cpu) (now slice) (now mask) (now rows) (now counts) (now flags) online r) ⌝ }
     ensures { λ o. let r = oldRecord masks tallies words levels in
         let q = newRecord masks tallies words levels in
-        ⌜ ((m : Machine) (a b k : ℕ) → Lends m (old state) (old policy) (old prio) (old cpu) (old slice) (old mask) (old rows) (old counts) (old flags) online r →
-        Effected m (event 3 who a b k) o (new state) (old policy) (old prio) (new cpu) (old slice) (old mask) (new rows) (new counts) (old flags) online q) ⌝ }
+        ⌜ ((m : Machine) (a b k : ℕ) → Lends m (old state) (old policy) (old prio) (old cpu) (old slice) (old mask)
+        (old rows) (old counts) (old flags) online r →
+        Effected m (event 3 who a b k) o (new state) (old policy) (old prio) (new cpu) (old slice) (old mask)
+        (new rows) (new counts) (old flags) online q) ⌝ }
 {
     let named = task_at(state, policy, prio, cpu, slice, mask, who as usize);
     match lifecycle::wake(online, named, who) {
@@ -85,11 +87,14 @@ pub fn sleep(
     who: u32,
 ) -> Effect
     requires { let r = nowRecord masks tallies words levels in
-        ⌜ ((m : Machine) × Lends m (now state) (now policy) (now prio) (now cpu) (now slice) (now mask) (now rows) (now counts) (now flags) (m .online) r) ⌝ }
+        ⌜ ((m : Machine) × Lends m (now state) (now policy) (now prio) (now cpu) (now slice) (now mask)
+        (now rows) (now counts) (now flags) (m .online) r) ⌝ }
     ensures { λ o. let r = oldRecord masks tallies words levels in
         let q = newRecord masks tallies words levels in
-        ⌜ ((m : Machine) (a b k : ℕ) → Lends m (old state) (old policy) (old prio) (old cpu) (old slice) (old mask) (old rows) (old counts) (old flags) (m .online) r →
-        Effected m (event 4 who a b k) o (new state) (old policy) (old prio) (old cpu) (old slice) (old mask) (new rows) (new counts) (old flags) (m .online) q) ⌝ }
+        ⌜ ((m : Machine) (a b k : ℕ) → Lends m (old state) (old policy) (old prio) (old cpu) (old slice) (old mask)
+        (old rows) (old counts) (old flags) (m .online) r →
+        Effected m (event 4 who a b k) o (new state) (old policy) (old prio) (old cpu) (old slice) (old mask)
+        (new rows) (new counts) (old flags) (m .online) q) ⌝ }
 {
     let named = task_at(state, policy, prio, cpu, slice, mask, who as usize);
     match lifecycle::sleep(named, who) {
