@@ -1,5 +1,7 @@
 // The check, the event and the finder for C, and for what links like C. A slice is a pointer and a length; the record is
 // lent as its four tables and written back. Each checks all that it is lent.
+#![tactic(auto)]
+
 ghost use Rattle.std.specs.Prelude.{◌≡◌};
 ghost use Rattle.levels.specs.Record.{lent_record};
 ghost use Rattle.lenttables.specs.Lent.{lent};

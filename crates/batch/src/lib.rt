@@ -1,5 +1,7 @@
 // A run of event records, at most 64 at a time: thin functions over a slice of structs, which take an event apart and call the
 // covered function on plain numbers. Their proofs are walks by hand, which scripts/walks writes from the parameter lists.
+#![tactic(auto)]
+
 ghost use Rattle.std.specs.Prelude.{◌≡◌, ◌<◌, ◌≤◌, length, get_or, take};
 ghost use Rattle.levels.specs.Record.{lent_record};
 ghost use Rattle.lenttables.specs.Lent.{lent};

@@ -65,8 +65,8 @@ word_ext (suc k) m n hm hn e =
 -- ---- the machine's operations
 
 -- a bit of an intersection
-pub bit_and : (m n c : ℕ) → bit (bit_and m n) c ≡ (bit m c && bit n c)
-bit_and m n zero =
+pub bit_of_and : (m n c : ℕ) → bit (bit_and m n) c ≡ (bit m c && bit n c)
+bit_of_and m n zero =
     ap (λ (x : ℕ). bit x 0) (and_digits m n) ∙ bit_low (bit m 0 && bit n 0) (bit_and (m / 2) (n / 2))
   where
     both : (a b : Bool) → min (digit a) (digit b) ≡ digit (a && b)
@@ -83,7 +83,7 @@ bit_and m n zero =
         let named : bit_and m n ≡ bit_and (m / 2) (n / 2) * 2 + digit (bit m 0 && bit n 0) =
         whole ∙ ap (λ (x : ℕ). bit_and (m / 2) (n / 2) * 2 + x) low_digit in
         omega arith
-bit_and m n (suc c) = bit_suc (bit_and m n) c ∙ ap (λ (x : ℕ). bit x c) halved ∙ bit_and (m / 2) (n / 2) c ∙ ap₂ ◌&&◌ (sym (bit_suc m c)) (sym (bit_suc n c))
+bit_of_and m n (suc c) = bit_suc (bit_and m n) c ∙ ap (λ (x : ℕ). bit x c) halved ∙ bit_of_and (m / 2) (n / 2) c ∙ ap₂ ◌&&◌ (sym (bit_suc m c)) (sym (bit_suc n c))
   where
     halved : bit_and m n / 2 ≡ bit_and (m / 2) (n / 2)
     halved = ap (λ (x : ℕ). x / 2) (and_step m n) ∙ lib.Arith.digits_div (bit_and (m / 2) (n / 2)) (small m n)

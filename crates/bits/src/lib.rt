@@ -1,5 +1,7 @@
 // 64-bit words as sets of numbers below 64, as kernel bitmaps are: test, set and clear a bit, the
 // lowest set bit, and how many are set. Each function is one or two instructions.
+#![tactic(auto)]
+
 ghost use Rattle.std.specs.Prelude.{◌≡◌, ◌-◌, ◌%◌, ◌^◌, ◌≤◌, ◌<◌};
 ghost use Rattle.bits.specs.Bit.{bit, with_bit, without_bit, put_bit, lowest, weight};
 

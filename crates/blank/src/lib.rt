@@ -1,4 +1,6 @@
 // Tables without a task: every place free, every row empty, no move logged.
+#![tactic(auto)]
+
 ghost use Rattle.std.specs.Prelude.{◌≡◌, length, replicate};
 ghost use Rattle.rules.specs.Tables.{nothing};
 

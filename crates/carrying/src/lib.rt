@@ -1,5 +1,7 @@
 // A decision is carried out, whatever the kind of event: a task leaves its row or not, its columns are written, it enters a row or
 // not, and the levels of those rows' CPUs follow; or a CPU's flag is set, or the CPU goes or comes back.
+#![tactic(auto)]
+
 ghost use Rattle.levels.specs.Record.{lent_record};
 ghost use Rattle.rules.specs.Machine.{Machine};
 ghost use Rattle.rules.specs.Plan.{carried};

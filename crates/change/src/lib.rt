@@ -1,5 +1,7 @@
 // A task's priority or affinity changes: kinds 5 and 6. Each has its checks in the paper's order and then its effect. `who` is the number
 // in the event, `named` what stands in the columns of the task that it names.
+#![tactic(auto)]
+
 ghost use Rattle.std.specs.Prelude.{◌≡◌, ℕ, ◌≤◌};
 ghost use Rattle.cpupri.specs.Level.{cpu_places};
 ghost use Rattle.rules.specs.Machine.{Machine};

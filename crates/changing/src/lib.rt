@@ -1,4 +1,6 @@
 // A task's priority or affinity changes: kinds 5 and 6, decided and carried out.
+#![tactic(auto)]
+
 ghost use Rattle.std.specs.Prelude.{◌≡◌, ℕ};
 ghost use Rattle.levels.specs.Record.{lent_record};
 ghost use Rattle.rules.specs.Machine.{Machine};

@@ -1,2 +1,4 @@
 // The tables that a caller lends, checked: one pass over each.
+#![tactic(auto)]
+
 pub mod check;

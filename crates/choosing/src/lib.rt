@@ -1,4 +1,6 @@
 // The step that applies: of a given task, and where few can move.
+#![tactic(auto)]
+
 ghost use Rattle.std.specs.Prelude.{◌≡◌, ◌≢◌, ◌≤◌, ◌<◌, length, get_or};
 ghost use Rattle.rules.specs.Machine.{Machine, task_places, cpu_places, highest_priority};
 ghost use Rattle.rules.specs.Migration.{next};

@@ -1,6 +1,8 @@
 // Whether a record is consistent in itself: one pass over the CPUs gathers the counts and words that their levels
 // determine, and takes each CPU out of a copy of the masks. Then the counts and words must be the lent ones, and of
 // the masks nothing may be left.
+#![tactic(auto)]
+
 ghost use Rattle.std.specs.Prelude.{◌≡◌, ℕ, ◌+◌, ◌/◌, ◌%◌, ◌^◌, ◌<◌, ◌≤◌, min, length, slice_index, slice_set};
 ghost use Rattle.bits.specs.Bit.{with_bit};
 ghost use Rattle.levels.specs.Level.{level_count, cpu_places};

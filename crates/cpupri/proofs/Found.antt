@@ -13,7 +13,7 @@ use lib.ListN.{length, get_or}
 use borrow.Author.Tests.{eqb-true, eq-eqb, ne_eqb, ltb-true, ltb-false, lt-ltb, le-ltb, not-true, eqb-false}
 use Rattle.bits.specs.Bit.{bit, lowest}
 use Rattle.bits.proofs.Tests.{and_left, and_right, and_both}
-use Rattle.bits.proofs.Word.{bit_and, bit_of_zero}
+use Rattle.bits.proofs.Word.{bit_of_and, bit_of_zero}
 use Rattle.bits.proofs.Search.{first_le, first_holds, first_at_most, lowest_bit, lowest_lt, lowest_at_most}
 use Rattle.levels.specs.Level.{level_count, cpu_places}
 use Rattle.levels.specs.Record.{masks_of}
@@ -34,7 +34,7 @@ module _ (levels : List ℕ) (places : length levels ≡ cpu_places) (mask : ℕ
   pub allowed_bit : (l c : ℕ) → l < level_count → c < cpu_places → bit (allowed_at (masks_of levels) mask l) c ≡ (eqb (get_or levels c 0) l && bit mask c)
   unfolding allowed_at
   allowed_bit l c hl hc =
-      bit_and (get_or (masks_of levels) l 0) mask c
+      bit_of_and (get_or (masks_of levels) l 0) mask c
       ∙ ap (λ (b : Bool). b && bit mask c) (ap (λ (m : ℕ). bit m c) (mask_at_lem levels l hl) ∙ mask_bit levels l c (omega arith))
 
   allowed_lt : (l : ℕ) → allowed_at (masks_of levels) mask l < 2 ^ 64

@@ -1,4 +1,6 @@
 // What an event of the rarer kinds does, decided from the columns of the task that it names. Nothing is written.
+#![tactic(auto)]
+
 ghost use Rattle.rules.specs.Machine.{Machine};
 ghost use Rattle.rules.specs.Events.{event};
 ghost use Rattle.deciding.specs.Subject.{Lent, Rare, Decides};

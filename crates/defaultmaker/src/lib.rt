@@ -1,4 +1,6 @@
 // The second maker: a fresh machine for a caller that names no full slice.
+#![tactic(auto)]
+
 ghost use Rattle.std.specs.Prelude.{◌≡◌};
 ghost use Rattle.rules.specs.Machine.{default_slice};
 ghost use Rattle.rules.specs.Entry.{kept, made, handed_back};

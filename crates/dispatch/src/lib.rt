@@ -1,4 +1,6 @@
 // An event's own effect, by its kind: what is decided is carried out at once, and who can move then is told.
+#![tactic(auto)]
+
 ghost use Rattle.std.specs.Prelude.{◌≡◌};
 ghost use Rattle.levels.specs.Record.{lent_record};
 ghost use Rattle.rules.specs.Machine.{Machine};

@@ -1,4 +1,6 @@
 // What an event's own effect tells: its answer, and who can move then.
+#![tactic(auto)]
+
 ghost use Rattle.std.specs.Prelude.{◌≡◌};
 ghost use Rattle.rules.specs.Machine.{cpu_places};
 ghost use Rattle.rules.specs.Tables.{nothing};

@@ -1,5 +1,7 @@
 // A CPU goes offline: its tasks leave it front to back, each for the lowest-numbered online CPU that it is allowed. And a CPU
 // comes back.
+#![tactic(auto)]
+
 ghost use Rattle.std.specs.Prelude.{◌≡◌, ◌*◌, ◌<◌, get_or};
 ghost use Rattle.bits.specs.Bit.{with_bit, without_bit};
 ghost use Rattle.cpupri.specs.Record.{record_of};

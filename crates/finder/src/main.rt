@@ -1,5 +1,7 @@
 // The lowest-priority search in use: records of 1, 3 and 64 CPUs, levels set, and what the finder
 // answers to each question.
+#![tactic(auto)]
+
 ghost use Rattle.std.specs.Prelude.{◌<◌};
 
 use cpupri::find::Found;

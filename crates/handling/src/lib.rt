@@ -1,4 +1,6 @@
 // An event on tables that pass the check: the event's own effect, then migration steps until none applies.
+#![tactic(auto)]
+
 ghost use Rattle.std.specs.Prelude.{◌≡◌, true};
 ghost use Rattle.levels.specs.Record.{lent_record};
 ghost use Rattle.rules.specs.Entry.{result_of, checked, handled};

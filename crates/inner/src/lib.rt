@@ -1,5 +1,7 @@
 // The inner event for C: for measuring, and for a caller that keeps its tables to itself. It is no public entry: what it
 // requires, nothing checks.
+#![tactic(auto)]
+
 ghost use Rattle.std.specs.Prelude.{◌≡◌, true};
 ghost use Rattle.levels.specs.Record.{lent_record};
 ghost use Rattle.rules.specs.Entry.{result_of, checked, handled};

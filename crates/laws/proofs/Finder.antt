@@ -13,7 +13,7 @@ use lib.Pow.{pow_mono}
 use borrow.Author.Tests.{eqb-true, eqb-false, ltb-true, ltb-false, lt-ltb}
 use Rattle.bits.specs.Bit.{bit, lowest}
 use Rattle.bits.proofs.Search.{lowest_bit, lowest_lt}
-use Rattle.bits.proofs.Word.{bit_above, bit_and, bit_of_zero}
+use Rattle.bits.proofs.Word.{bit_above, bit_of_and, bit_of_zero}
 use Rattle.bits.proofs.Tests.{and_left, and_right, and_both, fails}
 use Rattle.cpupri.specs.Level.{level_count}
 use Rattle.cpupri.specs.Record.{masks_of}
@@ -75,7 +75,7 @@ module _ (m : Machine) (w : WellFormed m) (t : ℕ) (fit : Fit m.n m.full (task_
   lower_bit : (c : ℕ) → c < cpu_places → bit lower_cpus c ≡ (ltb (get_or (levels m) c 0) asked && bit mask c)
   lower_bit c h =
       let high : asked < level_count = let p : prio_of m t ≤ highest_priority = fit.prio_high in omega arith in
-      bit_and (get_or (under_of (levels m)) asked 0) mask c
+      bit_of_and (get_or (under_of (levels m)) asked 0) mask c
       ∙ ap (λ (b : Bool). b && bit mask c) (ap (λ (x : ℕ). bit x c) (under_at_lem (levels m) asked high) ∙ under_bit (levels m) asked c (omega (arith, places)))
 
   pub lower_movable : not (eqb lower_cpus 0) ≡ movable m t

@@ -14,7 +14,7 @@ use borrow.Author.Tests.{eq-eqb, eqb-true, eqb-false, ltb-true, ltb-false}
 use Rattle.bits.specs.Bit.{bit, first, lowest, with_bit, without_bit}
 use Rattle.bits.proofs.Search.{lowest_is, first_cong, first_holds, first_before, zero_of_bits}
 use Rattle.bits.proofs.Tests.{and_left, and_right, and_both}
-use Rattle.bits.proofs.Word.{bit_and, bit_above, bit_put_same, bit_put_other, put_lt}
+use Rattle.bits.proofs.Word.{bit_of_and, bit_above, bit_put_same, bit_put_other, put_lt}
 use Rattle.cpupri.specs.Level.{level_count}
 use Rattle.rules.specs.Lists.{In, any, delete}
 use Rattle.rules.specs.Machine.{Machine, task_of, prio_of, row, flag, is_online, row_level, idle_level, level, invalid, allows, lowest_allowed, stranded}
@@ -45,7 +45,7 @@ pub online_part : (m : Machine) (k : ℕ) → k < 2 ^ m.n → stranded m k ≡ f
 online_part m k small up = (
   let z : bit_and k m.online ≢ 0 = eqb-false (bit_and k m.online) 0 up in omega arith,
   lt_of_le_of_lt (and_le_l k m.online) small,
-  first_cong (bit (bit_and k m.online)) (allows m k) m.n (λ c h. bit_and k m.online c),
+  first_cong (bit (bit_and k m.online)) (allows m k) m.n (λ c h. bit_of_and k m.online c),
 )
 
 pub lowest_up : (m : Machine) (k : ℕ) → k < 2 ^ m.n → stranded m k ≡ false → (lowest_allowed m k < m.n) × (allows m k (lowest_allowed m k) ≡ true)
@@ -53,7 +53,7 @@ lowest_up m k small up =
     let part = online_part m k small up in
     let good = lowest_good (bit_and k m.online) m.n part.0 part.1 in (
       subst (λ (x : ℕ). x < m.n) part.2 good.0,
-      subst (λ (x : ℕ). allows m k x ≡ true) part.2 (sym (bit_and k m.online (first (bit (bit_and k m.online)) m.n)) ∙ good.1),
+      subst (λ (x : ℕ). allows m k x ≡ true) part.2 (sym (bit_of_and k m.online (first (bit (bit_and k m.online)) m.n)) ∙ good.1),
     )
 
 -- the lowest bit of a 64-bit mask is its lowest-numbered CPU
@@ -79,12 +79,12 @@ both_allow m k c b on = and_both (bit k c) (is_online m c) b on
 
 -- a bit of the online part
 pub allows_bit : (m : Machine) (k c : ℕ) → bit (bit_and k m.online) c ≡ allows m k c
-allows_bit m k c = bit_and k m.online c
+allows_bit m k c = bit_of_and k m.online c
 
 -- a mask that allows an online CPU is not stranded
 pub allows_not_stranded : (m : Machine) (k c : ℕ) → allows m k c ≡ true → stranded m k ≡ true → ⊥
 allows_not_stranded m k c a s =
-    true≢false (sym a ∙ sym (bit_and k m.online c) ∙ ap (λ (x : ℕ). bit x c) (eqb-true (bit_and k m.online) 0 s) ∙ none c)
+    true≢false (sym a ∙ sym (bit_of_and k m.online c) ∙ ap (λ (x : ℕ). bit x c) (eqb-true (bit_and k m.online) 0 s) ∙ none c)
   where
     none : (c : ℕ) → bit 0 c ≡ false
     none c = bit_above 0 0 c (omega arith) (omega arith)

@@ -1,4 +1,6 @@
 // The CPU-priority record as a C caller lends it, four tables; and the finder's answer as C has it.
+#![tactic(auto)]
+
 ghost use Rattle.std.specs.Prelude.{◌≡◌, true, length};
 ghost use Rattle.levels.specs.Record.{lent_record};
 ghost use Rattle.cpupri.specs.Found.{answer_of};

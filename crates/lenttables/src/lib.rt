@@ -1,4 +1,6 @@
 // The ten tables that a caller lends, their lengths, and the full slice.
+#![tactic(auto)]
+
 ghost use Rattle.std.specs.Prelude.{◌≡◌, ℕ};
 ghost use Rattle.rules.specs.Tables.{lengths_fit};
 ghost use Rattle.lenttables.specs.Lent.{lent, sizes_fit};

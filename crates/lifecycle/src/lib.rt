@@ -1,5 +1,7 @@
 // Tasks come, wake, sleep and go: kinds 1 to 4. Each has its checks in the paper's order and then its effect. `who` is the number in
 // the event, `named` what stands in the columns of the task that it names.
+#![tactic(auto)]
+
 ghost use Rattle.std.specs.Prelude.{◌≡◌, cond, ℕ, ◌≤◌, ◌<◌};
 ghost use Rattle.bits.specs.Bit.{bit, lowest as lowestBit};
 ghost use Rattle.cpupri.specs.Level.{cpu_places};

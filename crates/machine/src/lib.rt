@@ -1,5 +1,7 @@
 // The machine's event over tables lent by the caller: the checks, the event's own effect, then
 // migration steps until none applies. What comes after the checks is crate `handling`.
+#![tactic(auto)]
+
 ghost use Rattle.std.specs.Prelude.{◌≡◌};
 ghost use Rattle.levels.specs.Record.{lent_record};
 ghost use Rattle.cpupri.specs.Consistent.{Sized};

@@ -1,4 +1,6 @@
 // A fresh machine in lent tables.
+#![tactic(auto)]
+
 ghost use Rattle.std.specs.Prelude.{◌≡◌};
 ghost use Rattle.rules.specs.Entry.{kept, made, handed_back};
 ghost use Rattle.lenttables.specs.Lent.{lent};

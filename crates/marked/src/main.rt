@@ -1,4 +1,6 @@
 // Document 01's marked examples K1 to K12. They are its standard input: crate `script` says how a line is read.
+#![tactic(auto)]
+
 fn main() {
     script::run();
 }

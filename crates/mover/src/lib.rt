@@ -1,2 +1,4 @@
 // The foremost of the waiting tasks that pass a test, of all rows.
+#![tactic(auto)]
+
 pub mod pick;

@@ -1,4 +1,6 @@
 // A recording of a night replayed on a fresh machine, in tables that a caller lends for 64 CPUs.
+#![tactic(auto)]
+
 ghost use Rattle.std.specs.Prelude.{◌≡◌};
 ghost use Rattle.lenttables.specs.Lent.{lent};
 ghost use Rattle.recording.specs.Replay.{replay as report, replayed};

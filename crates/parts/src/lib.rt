@@ -1,4 +1,6 @@
 // The parts of a plan: a task leaves a row or not, enters one or not, and a CPU's level follows or not; and a CPU's flag.
+#![tactic(auto)]
+
 ghost use Rattle.std.specs.Prelude.{◌≡◌, cond, length, set};
 ghost use Rattle.cpupri.specs.Record.{record_of, Whole};
 ghost use Rattle.levels.specs.Record.{lent_record};

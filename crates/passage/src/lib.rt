@@ -1,4 +1,6 @@
 // The events of a recording, a batch after the other, on a machine that is ready for them.
+#![tactic(auto)]
+
 ghost use Rattle.std.specs.Prelude.{◌≡◌};
 ghost use Rattle.levels.specs.Record.{lent_record};
 ghost use Rattle.lenttables.specs.Lent.{lent};

@@ -1,5 +1,7 @@
 // What happens on a CPU: kinds 7 to 11. Each has its checks in the paper's order and then its effect. `who` is the CPU; a tick and a
 // yield have in `at` the task that runs there, and in `runner` what stands in its columns.
+#![tactic(auto)]
+
 ghost use Rattle.std.specs.Prelude.{◌≡◌, false, ℕ, ◌≤◌};
 ghost use Rattle.rules.specs.Machine.{Machine, cpu_places};
 ghost use Rattle.rules.specs.Events.{event, tick as tickKind, yield, set_ordinary, take_offline, bring_online};

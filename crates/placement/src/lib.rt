@@ -1,5 +1,7 @@
 // A task enters a run queue, and its CPU's level follows at once: the tables of rows and the CPU-priority record change together.
 // Where more than one row changes, each CPU's level follows when they have.
+#![tactic(auto)]
+
 ghost use Rattle.std.specs.Prelude.{◌≡◌, ℕ, ◌*◌, ◌≤◌, ◌<◌, length, get_or, set};
 ghost use Rattle.cpupri.specs.Record.{record_of, Whole};
 ghost use Rattle.levels.specs.Record.{lent_record};

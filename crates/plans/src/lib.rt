@@ -1,4 +1,6 @@
 // What an event does, as a value: refused, nothing, a plan for one task, a flag, or a CPU that goes or comes back.
+#![tactic(auto)]
+
 pub mod checks;
 pub mod columns;
 pub mod plan;

@@ -1,4 +1,6 @@
 // One recorded event on tables that pass the check and are settled: the time since the event before, then the event.
+#![tactic(auto)]
+
 ghost use Rattle.std.specs.Prelude.{◌≡◌, ℕ, ◌+◌, ◌^◌, ◌<◌, ◌≤◌, not, length, if◌then◌else◌, ◌==◌, nat_eq, slice_index};
 ghost use Rattle.bits.specs.Bit.{digit};
 ghost use Rattle.levels.specs.Record.{lent_record};

@@ -1,4 +1,6 @@
 // What a script's programs print: an answer, and the tables.
+#![tactic(auto)]
+
 use libc::STDOUT_FILENO;
 
 pub fn text(words: &[u8]) {

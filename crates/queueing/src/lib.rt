@@ -1,5 +1,7 @@
 // The task of a plan, whose columns are written, goes where the plan says: out of a row, into one, or both. The levels of these rows' CPUs
 // follow. Each says who can move then, if nobody could before.
+#![tactic(auto)]
+
 ghost use Rattle.std.specs.Prelude.{◌≡◌, false, ◌≢◌};
 ghost use Rattle.levels.specs.Record.{lent_record};
 ghost use Rattle.rules.specs.Machine.{Machine, Task, runnable};

@@ -1,4 +1,6 @@
 // One row of 512 places looked through: where a task stands, and how many tasks are not below a key.
+#![tactic(auto)]
+
 ghost use Rattle.std.specs.Prelude.{◌≡◌, ◌+◌, ◌-◌, ◌/◌, ◌≤◌, ◌<◌, ltb, eqb, length, get_or, take, drop};
 ghost use Rattle.rules.specs.Lists.{In, place, any};
 ghost use Rattle.ranking.specs.Row.{HoldsRow, Ordered, LowerFrom, Ends, block, ahead};

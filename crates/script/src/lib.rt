@@ -15,6 +15,8 @@
 //     # words                            for the reader of the script alone
 //
 // Any other line is a title.
+#![tactic(auto)]
+
 ghost use Rattle.std.specs.Prelude.{◌≤◌, length};
 
 mod line;

@@ -1,4 +1,6 @@
 // Whether a task would have nowhere to go without its CPU.
+#![tactic(auto)]
+
 ghost use Rattle.std.specs.Prelude.{◌≡◌};
 ghost use Rattle.rules.specs.Machine.{Machine};
 ghost use Rattle.stranding.specs.Stranding.{strands_by, any_stranded, LentMasks, Listed};

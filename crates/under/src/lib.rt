@@ -1,4 +1,6 @@
 // The CPUs below each level, for many questions of one record: whether some CPU of a mask is below a level is then one AND.
+#![tactic(auto)]
+
 ghost use Rattle.std.specs.Prelude.{◌≡◌, List, ℕ, ◌≤◌, ◌<◌, length, get_or, set};
 ghost use Rattle.levels.specs.Level.{level_count, cpu_places};
 ghost use Rattle.levels.specs.Record.{masks_of};

@@ -1,4 +1,6 @@
 // A task wakes or sleeps: kinds 3 and 4, decided and carried out.
+#![tactic(auto)]
+
 ghost use Rattle.std.specs.Prelude.{ℕ};
 ghost use Rattle.levels.specs.Record.{lent_record};
 ghost use Rattle.rules.specs.Machine.{Machine};

@@ -1,4 +1,6 @@
 // Tables looked at whole: copied, and compared many places at a time.
+#![tactic(auto)]
+
 pub mod compare;
 pub mod copy;
 pub mod eights;

@@ -5,7 +5,7 @@ use mathlib.Core.Bool.{Bool, true, ◌&&◌, ◌||◌}
 use native.Mathlib.Omega.{arith}
 use borrow.Author.Tests.{not-true, not-false}
 use lib.Dec.{eqb}
-use Rattle.bits.proofs.Word.{bit_and}
+use Rattle.bits.proofs.Word.{bit_of_and}
 use Rattle.rules.specs.Machine.{Task}
 use Rattle.rules.specs.WellFormed.{fits}
 use Rattle.wellformed.specs.Passes.{task, ranges_fit}
@@ -46,7 +46,7 @@ returns-3 : tie.Need-returns-3
 returns-3 c =
     let k = at.returns-3 c in
     let a = k.args in
-    ap (λ (b : Bool). eqb a.state 1 || (eqb a.state 2 && a.placed && b)) (k.test_bit.ensures ∙ bit_and a.mask a.online a.cpu)
+    ap (λ (b : Bool). eqb a.state 1 || (eqb a.state 2 && a.placed && b)) (k.test_bit.ensures ∙ bit_of_and a.mask a.online a.cpu)
     ∙ sym (sound_in a.placed a.n a.full a.online (given k.start) k.if1.left (ranged k.else2))
 
 pub task_fits_spec : {M : Type 1} → statement M
