@@ -15,7 +15,7 @@ use levels::record::{CPUS, LEVELS, Record};
 const BITS: usize = 64;
 
 // What the finder answers.
-#[derive(Drop)]
+#[derive(Clone, Copy)]
 pub enum Found {
     // the allowed CPUs at the lowest level below the asked one that has any, and how many masks were read
     Cpus { level: u8, mask: u64, read: u32 },

@@ -5,7 +5,7 @@ use super::item::item_at;
 use recording::{BATCH, Ending, Event, Item};
 
 // So many events, and the place behind them. `more` says that the batch is full; else the recording ends there, in that way.
-#[derive(Drop)]
+#[derive(Clone, Copy)]
 pub struct Batch {
     pub events: [Event; BATCH],
     pub count: usize,

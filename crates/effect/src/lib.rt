@@ -12,7 +12,7 @@ use rules::answer::ACCEPTED;
 use runqueue::row::NOTHING;
 
 // The answer, 0 or a refusal, which changes nothing; and the candidates, if nobody could move before.
-#[derive(Drop)]
+#[derive(Clone, Copy)]
 pub struct Effect {
     pub fallen: usize,
     pub new: u16,

@@ -15,7 +15,7 @@ use migration::settle::settle;
 use rules::answer::ACCEPTED;
 
 // The answer to an event: 0 and the number of moves, or a refusal with 0 moves, which changes nothing.
-#[derive(Drop)]
+#[derive(Clone, Copy)]
 pub struct Handled {
     pub answer: u8,
     pub moves: u32,

@@ -6,7 +6,7 @@ ghost use Rattle.hinting.specs.Hinted.{known_if, nobody_in, candidates_after};
 use cpupri::record::CPUS;
 use runqueue::row::{NOTHING, PLACES};
 
-#[derive(Drop)]
+#[derive(Clone, Copy)]
 pub enum Hint {
     // nothing is known
     Unknown,
@@ -15,7 +15,7 @@ pub enum Hint {
 }
 
 // Who can move: the task `new` (65535: none), and tasks that go to the CPU `fallen` (64: none).
-#[derive(Drop)]
+#[derive(Clone, Copy)]
 pub struct Candidates {
     pub fallen: usize,
     pub new: u16,

@@ -10,7 +10,7 @@ use rules::task::RUNNABLE;
 use runqueue::row::{NOTHING, PLACES};
 
 // What was so before the effect.
-#[derive(Drop)]
+#[derive(Clone, Copy)]
 pub enum Past {
     // no task is touched
     Untouched,

@@ -8,7 +8,7 @@
 ghost use Rattle.std.specs.Prelude.{◌≡◌, ◌≤◌};
 ghost use Rattle.levels.specs.Level.{level_of};
 
-#[derive(Drop)]
+#[derive(Clone, Copy)]
 pub struct Level {
     pub number: u8,
 }

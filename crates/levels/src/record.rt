@@ -12,7 +12,7 @@ pub const WORDS: usize = 2;
 
 pub const CPUS: usize = 64;
 
-#[derive(Drop)]
+#[derive(Clone, Copy)]
 pub struct Record {
     // for each level the CPUs at it, bit c for CPU c
     pub masks: [u64; LEVELS],

@@ -17,7 +17,7 @@ use handling::Handled;
 pub use handling::handle;
 
 // The answer to an event: 0 and the number of moves, or a refusal, which changes nothing; and the record handed back.
-#[derive(Drop)]
+#[derive(Clone, Copy)]
 pub struct Outcome {
     pub answer: u8,
     pub moves: u32,

@@ -12,7 +12,7 @@ use lenttables::sizes_fit;
 use rules::answer::{ACCEPTED, BAD_SIZE};
 
 // The answer, and what comes back: the full slice, 0 on a refusal, and the record.
-#[derive(Drop)]
+#[derive(Clone, Copy)]
 pub struct Made {
     pub answer: u8,
     pub full: u32,

@@ -11,7 +11,7 @@ ghost use Rattle.movelog.specs.Entry.{move_by};
 use rules::log::ENTRY;
 
 // A step: the mover, the CPU it waits on, its destination, and the level of that before the move.
-#[derive(Drop)]
+#[derive(Clone, Copy)]
 pub struct Step {
     pub task: u16,
     pub origin: usize,

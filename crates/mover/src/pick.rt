@@ -13,7 +13,7 @@ use waiting::scan::{Test, least, scan};
 
 // A candidate, the CPU it waits on and its priority. Task 65535: there is none, and who passes the test is
 // above this priority.
-#[derive(Drop)]
+#[derive(Clone, Copy)]
 pub struct Mover {
     pub task: u16,
     pub origin: usize,
@@ -50,7 +50,7 @@ pub fn pick(
 }
 
 // Who waits above a level: one task (65535: none), unless there are several.
-#[derive(Drop)]
+#[derive(Clone, Copy)]
 pub struct Above {
     pub task: u16,
     pub several: bool,

@@ -13,7 +13,7 @@ use passage::pass;
 use recording::{Course, Ending};
 
 // How and where the recording ends, what the replay has come to, and the record handed back.
-#[derive(Drop)]
+#[derive(Clone, Copy)]
 pub struct Played {
     pub ending: Ending,
     pub place: usize,

@@ -17,7 +17,7 @@ pub mod fresh;
 
 // The answer, 0 or 1; how the recording ends, and where its whole records end; N and the full slice, both 0 without a good first
 // record; the moves and the refused events; and the record handed back.
-#[derive(Drop)]
+#[derive(Clone, Copy)]
 pub struct Report {
     pub answer: u8,
     pub ending: Ending,

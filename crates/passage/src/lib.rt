@@ -14,7 +14,7 @@ use decoding::batch::fill;
 use recording::{Course, Ending, RECORDS};
 
 // How and where the recording ends, and what the replay has come to.
-#[derive(Drop)]
+#[derive(Clone, Copy)]
 pub struct Passage {
     pub ending: Ending,
     pub place: usize,

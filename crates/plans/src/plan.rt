@@ -5,7 +5,7 @@ ghost use Rattle.plans.specs.Decided.{as_task, as_plan};
 
 // A task place: its entry in each of the six columns. A changed one is written out field by field: a copy with one field set goes
 // through memory, byte by byte in and by words out.
-#[derive(Drop)]
+#[derive(Clone, Copy)]
 pub struct Task {
     pub state: u8,
     pub policy: u8,
@@ -18,7 +18,7 @@ pub struct Task {
 // A task leaves a row or not, its columns are written, and it enters a row or not, in front of its
 // equals or behind them. Entering sets its CPU besides. (Numbers first: where a decision about a CPU lies in the same places, a
 // plan is not packed into words and unpacked again.)
-#[derive(Drop)]
+#[derive(Clone, Copy)]
 pub struct Plan {
     pub origin: usize,
     pub becomes: Task,
@@ -29,7 +29,7 @@ pub struct Plan {
     pub front: bool,
 }
 
-#[derive(Drop)]
+#[derive(Clone, Copy)]
 pub enum Decision {
     // the refusal's number
     Refused(u8),

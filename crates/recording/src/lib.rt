@@ -10,7 +10,7 @@ pub const BATCH: usize = 64;
 
 // Widths in bytes of the numbers in a record's body, behind the stamp and in this order; 0: the kind has none. A task number has 2, a CPU
 // number 1.
-#[derive(Drop)]
+#[derive(Clone, Copy)]
 pub struct Layout {
     pub who: usize,
     pub a: usize,
@@ -19,7 +19,7 @@ pub struct Layout {
 }
 
 // An event record: document 01's five numbers, and its stamp in microseconds.
-#[derive(Drop)]
+#[derive(Clone, Copy)]
 pub struct Event {
     pub kind: u32,
     pub who: u32,
@@ -30,7 +30,7 @@ pub struct Event {
 }
 
 // How a recording ends: behind a record, within one, or at one that stops the replay.
-#[derive(Drop)]
+#[derive(Clone, Copy)]
 pub enum Ending {
     Whole,
     Cut,
@@ -38,14 +38,14 @@ pub enum Ending {
 }
 
 // What stands at a place: the end, or an event record and the place behind it.
-#[derive(Drop)]
+#[derive(Clone, Copy)]
 pub enum Item {
     Ends(Ending),
     Holds { event: Event, end: usize },
 }
 
 // The first record: cut, one that stops the replay, or a machine of n CPUs with a full slice of so many ticks, and the place behind it.
-#[derive(Drop)]
+#[derive(Clone, Copy)]
 pub enum First {
     Missing,
     Bad,
@@ -53,7 +53,7 @@ pub enum First {
 }
 
 // What a replay carries along: its machine's full slice, the moves and the refused events so far, and the last event's stamp.
-#[derive(Drop)]
+#[derive(Clone, Copy)]
 pub struct Course {
     pub full: u16,
     pub moves: u64,

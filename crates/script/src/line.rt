@@ -2,7 +2,7 @@
 ghost use Rattle.std.specs.Prelude.{◌≤◌, length};
 
 // A line's first byte, its last five numbers, and where it ends.
-#[derive(Drop)]
+#[derive(Clone, Copy)]
 pub struct Line {
     pub first: u8,
     pub numbers: Numbers,
@@ -10,7 +10,7 @@ pub struct Line {
 }
 
 // The last five numbers, the latest in e; `inside`: the byte before was a digit of it.
-#[derive(Drop)]
+#[derive(Clone, Copy)]
 pub struct Numbers {
     pub inside: bool,
     pub a: u64,

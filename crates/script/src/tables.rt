@@ -12,7 +12,7 @@ use rules::task::{FIFO, RUNNABLE};
 
 // The tables are lent for `lent` CPUs, the first of 65 rows, counts and flags; anything but n is a wrong length. The full slice is what the maker
 // handed back. The answer, the moves and the record are those of the last call.
-#[derive(Drop)]
+#[derive(Clone, Copy)]
 pub struct Tables {
     pub n: u8,
     pub lent: u8,
@@ -32,7 +32,7 @@ pub struct Tables {
 }
 
 // The five numbers of an event.
-#[derive(Drop)]
+#[derive(Clone, Copy)]
 pub struct Event {
     pub kind: u32,
     pub who: u32,

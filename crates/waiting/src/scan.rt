@@ -11,7 +11,7 @@ use cpupri::record::LEVELS;
 use runqueue::row::NOTHING;
 
 // Who is looked for among the waiting tasks.
-#[derive(Drop)]
+#[derive(Clone, Copy)]
 pub enum Test {
     // who has an allowed CPU below its level, by the CPUs below each level; no CPU is below the level `lowest`
     Movable { lowest: u8 },

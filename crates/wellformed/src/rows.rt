@@ -14,7 +14,7 @@ use rowcheck::row::row_fits;
 use runqueue::row::PLACES;
 
 // Whether the rows are right and, if so, the set of the tasks that stand in them.
-#[derive(Drop)]
+#[derive(Clone, Copy)]
 pub struct Placed {
     pub fit: bool,
     pub marks: [u64; WORDS],
