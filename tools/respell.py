@@ -172,8 +172,8 @@ def parameters(text, start):
 
 def clauses(text, at):
     """the span from the signature's end to the body's brace: the clauses"""
-    end = text.find("\n{", at)
-    return at, end if end >= 0 else at
+    m = re.compile(r"\n[ \t]*\{").search(text, at)
+    return at, m.start() if m else at
 
 
 def behind(name, params, when):

@@ -6,7 +6,7 @@ ghost use Rattle.std.specs.Prelude.{◌≡◌, ◌*◌, ◌<◌, get_or};
 ghost use Rattle.bits.specs.Bit.{with_bit, without_bit};
 ghost use Rattle.cpupri.specs.Record.{record_of};
 ghost use Rattle.levels.specs.Record.{lent_record};
-ghost use Rattle.rules.specs.Machine.{Machine, task_places, levels as levelsOf, with_cpu};
+ghost use Rattle.rules.specs.Machine.{Machine, task_places, levels as levels_of, with_cpu};
 ghost use Rattle.rules.specs.Events.{taken_offline};
 ghost use Rattle.laws.specs.Leaving.{one_less};
 ghost use Rattle.evacuation.specs.Going.{Emptying, Emptied, Shifted, Coming};
@@ -69,7 +69,7 @@ pub fn bring_online(
     ensures fact_2 { let r = lent_record masks.old tallies.old words.old levels.old in
         let q = lent_record masks.new tallies.new words.new levels.new in
         ((m : Machine) → Coming m prio.now rows.now counts.now flags.now online.old r cpu
-        → q ≡ record_of (levelsOf (with_cpu cpu m))) }
+        → q ≡ record_of (levels_of (with_cpu cpu m))) }
 {
     *online = bits::set_bit(*online, cpu);
     placement::follow(

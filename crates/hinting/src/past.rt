@@ -1,6 +1,6 @@
 // What is read of the task that an event is about before the event's own effect, on a settled machine, and who can move after it.
 ghost use Rattle.std.specs.Prelude.{◌≡◌, ◌<◌};
-ghost use Rattle.rules.specs.Machine.{Machine, row, task_places, levels as levelsOf};
+ghost use Rattle.rules.specs.Machine.{Machine, row, task_places, levels as levels_of};
 ghost use Rattle.hinting.specs.Past.{Reading, Standing, Able, past_of, past_of_row, past_by, new_since, candidates_since};
 
 use super::hint::Candidates;
@@ -101,8 +101,8 @@ pub fn since(past: Past, state: &[u8], cpu: &[u8], rows: &[u16], levels: &[u8; C
 // The task if it waits; if it runs, and did not run there before, the task behind it, which it displaced; else none.
 fn new_task(task: u16, at: usize, ran: bool, state: &[u8], cpu: &[u8], rows: &[u16]) -> u16
     requires task_lt_task_places { task < task_places }
-    requires reading { (m : Machine) × (Reading m cpu.now rows.now (levelsOf m) × (state.now ≡ m.state)) }
-    ensures { (m : Machine) → Reading m cpu.now rows.now (levelsOf m) → state.now ≡ m.state → result ≡ new_since task at ran m }
+    requires reading { (m : Machine) × (Reading m cpu.now rows.now (levels_of m) × (state.now ≡ m.state)) }
+    ensures { (m : Machine) → Reading m cpu.now rows.now (levels_of m) → state.now ≡ m.state → result ≡ new_since task at ran m }
 {
     let own = task as usize;
     if state[own] != RUNNABLE {

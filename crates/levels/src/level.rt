@@ -25,7 +25,7 @@ impl Level {
     // The level of a CPU that runs a real-time task of this priority.
     pub fn of_priority(priority: u8) -> Level
         requires { priority ≤ 99 }
-        ensures { result.number ≡ levelOf priority }
+        ensures { result.number ≡ level_of priority }
     {
         Level {
             number: priority + 2,

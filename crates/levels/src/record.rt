@@ -27,8 +27,8 @@ pub struct Record {
 impl Record {
     // The record of a fresh machine of n CPUs: all of them idle.
     pub fn fresh(n: usize) -> Record
-        requires { n ≤ cpuPlaces }
-        ensures { result ≡ recordOf (freshLevels n) }
+        requires { n ≤ cpu_places }
+        ensures { result ≡ record_of (fresh_levels n) }
     {
         let invalid = Level::INVALID;
         let mut r = Record {
@@ -48,9 +48,9 @@ impl Record {
     // The record with the CPU at another level. Either level may be INVALID.
     pub fn set_level(self, cpu: usize, level: Level) -> Record
         requires whole { Whole self }
-        requires cpu_lt_cpu_places { cpu < cpuPlaces }
+        requires cpu_lt_cpu_places { cpu < cpu_places }
         requires number_value { known level.number ≡ true }
-        ensures { result ≡ recordOf (set self.levels cpu level.number) }
+        ensures { result ≡ record_of (set self.levels cpu level.number) }
     {
         let mut masks = self.masks;
         let mut counts = self.counts;

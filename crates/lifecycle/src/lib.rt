@@ -3,11 +3,11 @@
 #![tactic(auto)]
 
 ghost use Rattle.std.specs.Prelude.{◌≡◌, cond, ℕ, ◌≤◌, ◌<◌};
-ghost use Rattle.bits.specs.Bit.{bit, lowest as lowestBit};
+ghost use Rattle.bits.specs.Bit.{bit, lowest as lowest_bit};
 ghost use Rattle.cpupri.specs.Level.{cpu_places};
 ghost use Rattle.rules.specs.Machine.{Machine, asleep, runnable};
 ghost use Rattle.rules.specs.Plan.{enter, leave, with_state};
-ghost use Rattle.rules.specs.Events.{event, add as addKind, remove as removeKind, wake as wakeKind, sleep as sleepKind};
+ghost use Rattle.rules.specs.Events.{event, add as add_kind, remove as remove_kind, wake as wake_kind, sleep as sleep_kind};
 ghost use Rattle.plans.specs.Decided.{Named, DecidedAs, Shaped, as_task};
 
 use cpupri::find::mask_fits;
@@ -20,7 +20,7 @@ use runqueue::row::PLACES;
 pub fn add(n: usize, full: u16, named: Task, who: u32, a: u32, b: u32, k: u64) -> Decision
     requires { n ≤ cpu_places }
     ensures { (m : Machine) (kind : ℕ) → n ≡ m.n → full ≡ m.full → Named m who named
-        → DecidedAs addKind m (event kind who a b k) result }
+        → DecidedAs add_kind m (event kind who a b k) result }
 {
     let known = is_policy(a);
     let in_range = is_priority(b);
@@ -54,7 +54,7 @@ pub fn add(n: usize, full: u16, named: Task, who: u32, a: u32, b: u32, k: u64) -
 
 // Kind 2: a task that is asleep leaves its place free.
 pub fn remove(named: Task, who: u32) -> Decision
-    ensures { (m : Machine) (kind a b k : ℕ) → Named m who named → DecidedAs removeKind m (event kind who a b k) result }
+    ensures { (m : Machine) (kind a b k : ℕ) → Named m who named → DecidedAs remove_kind m (event kind who a b k) result }
 {
     if PLACES <= who as usize {
         return Decision::Refused(answer::BAD_NUMBER);
@@ -78,7 +78,7 @@ pub fn remove(named: Task, who: u32) -> Decision
 pub fn wake(online: u64, named: Task, who: u32) -> Decision
     requires { (m : Machine) × Named m who named }
     ensures fact_1 { ((m : Machine) (kind a b k : ℕ) → online ≡ m.online → Named m who named
-        → DecidedAs wakeKind m (event kind who a b k) result) }
+        → DecidedAs wake_kind m (event kind who a b k) result) }
     ensures fact_2 { Shaped (λ p. ((d : ℕ) × (p ≡ enter who (with_state runnable (as_task named)) d))) result }
 {
     if PLACES <= who as usize {
@@ -105,7 +105,7 @@ pub fn wake(online: u64, named: Task, who: u32) -> Decision
 
 // Kind 4: a runnable task leaves its row. Its CPU and its slice are kept.
 pub fn sleep(named: Task, who: u32) -> Decision
-    ensures fact_1 { ((m : Machine) (kind a b k : ℕ) → Named m who named → DecidedAs sleepKind m (event kind who a b k) result) }
+    ensures fact_1 { ((m : Machine) (kind a b k : ℕ) → Named m who named → DecidedAs sleep_kind m (event kind who a b k) result) }
     ensures fact_2 { Shaped (λ p. p ≡ leave who named.cpu (with_state asleep (as_task named))) result }
 {
     if PLACES <= who as usize {
@@ -128,7 +128,7 @@ pub fn sleep(named: Task, who: u32) -> Decision
 // Where a task wakes that may use the CPUs `up`: on its own if that is one of them, else on the lowest-numbered.
 fn wake_cpu(cpu: usize, up: u64) -> usize
     requires { cpu < cpu_places }
-    ensures { result ≡ cond (bit up cpu) cpu (lowestBit cpu_places up) }
+    ensures { result ≡ cond (bit up cpu) cpu (lowest_bit cpu_places up) }
 {
     if bits::test_bit(up, cpu) {
         return cpu;

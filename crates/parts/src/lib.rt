@@ -4,7 +4,7 @@
 ghost use Rattle.std.specs.Prelude.{◌≡◌, cond, length, set};
 ghost use Rattle.cpupri.specs.Record.{record_of, Whole};
 ghost use Rattle.levels.specs.Record.{lent_record};
-ghost use Rattle.rules.specs.Machine.{Machine, task_places, levels as levelsOf, with_flag, enqueue_at, dequeue};
+ghost use Rattle.rules.specs.Machine.{Machine, task_places, levels as levels_of, with_flag, enqueue_at, dequeue};
 ghost use Rattle.placement.specs.Held.{Queues, followed};
 ghost use Rattle.parts.specs.Optional.{LeavingIf, EnteringIf, FollowingIf, Flagging};
 
@@ -95,7 +95,7 @@ pub fn set_flag(
     ensures fact_2 { let r = lent_record masks.old tallies.old words.old levels.old in
         let q = lent_record masks.new tallies.new words.new levels.new in
         ((m : Machine) → Flagging m prio.now rows.now counts.now flags.old online r cpu work
-        → q ≡ record_of (levelsOf (with_flag cpu work m))) }
+        → q ≡ record_of (levels_of (with_flag cpu work m))) }
 {
     flags[cpu] = work;
     follow_if(

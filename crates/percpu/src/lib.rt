@@ -4,7 +4,7 @@
 
 ghost use Rattle.std.specs.Prelude.{◌≡◌, false, ℕ, ◌≤◌};
 ghost use Rattle.rules.specs.Machine.{Machine, cpu_places};
-ghost use Rattle.rules.specs.Events.{event, tick as tickKind, yield, set_ordinary, take_offline, bring_online};
+ghost use Rattle.rules.specs.Events.{event, tick as tick_kind, yield, set_ordinary, take_offline, bring_online};
 ghost use Rattle.rules.specs.Plan.{reorder, with_slice};
 ghost use Rattle.plans.specs.Decided.{Runs, strands, DecidedAs, Shaped, Requeues, as_task};
 
@@ -20,7 +20,7 @@ const WORK: u32 = 1;
 pub fn tick(n: usize, online: u64, full: u16, at: usize, runner: Task, who: u32) -> Decision
     requires { n ≤ cpu_places }
     ensures fact_1 { ((m : Machine) (kind a b k : ℕ) → n ≡ m.n → online ≡ m.online → full ≡ m.full → Runs m who at runner
-        → DecidedAs tickKind m (event kind who a b k) result) }
+        → DecidedAs tick_kind m (event kind who a b k) result) }
     ensures fact_2 { Shaped (λ p. ((v : ℕ) × Requeues at who (with_slice v (as_task runner)) p)) result }
 {
     let cpu = who as usize;

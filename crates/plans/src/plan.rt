@@ -46,7 +46,7 @@ pub enum Decision {
 impl Plan {
     // Only the columns.
     pub fn rewrite(task: u16, becomes: Task) -> Plan
-        ensures { asPlan result ≡ rewriting task (asTask becomes) }
+        ensures { as_plan result ≡ rewriting task (as_task becomes) }
     {
         Plan {
             task,
@@ -61,7 +61,7 @@ impl Plan {
 
     // Into a row, behind its equals.
     pub fn enter(task: u16, becomes: Task, target: usize) -> Plan
-        ensures { asPlan result ≡ entering task (asTask becomes) target }
+        ensures { as_plan result ≡ entering task (as_task becomes) target }
     {
         Plan {
             task,
@@ -76,7 +76,7 @@ impl Plan {
 
     // Out of a row.
     pub fn leave(task: u16, origin: usize, becomes: Task) -> Plan
-        ensures { asPlan result ≡ leaving task origin (asTask becomes) }
+        ensures { as_plan result ≡ leaving task origin (as_task becomes) }
     {
         Plan {
             task,
@@ -91,7 +91,7 @@ impl Plan {
 
     // From one row to another, or to its place behind its equals in the same one.
     pub fn shift(task: u16, origin: usize, becomes: Task, target: usize) -> Plan
-        ensures { asPlan result ≡ shifting task origin (asTask becomes) target }
+        ensures { as_plan result ≡ shifting task origin (as_task becomes) target }
     {
         Plan {
             task,
@@ -105,7 +105,7 @@ impl Plan {
     }
     // To another place in its row, in front of its equals or behind them.
     pub fn reorder(task: u16, home: usize, becomes: Task, front: bool) -> Plan
-        ensures { asPlan result ≡ reordering front task home (asTask becomes) }
+        ensures { as_plan result ≡ reordering front task home (as_task becomes) }
     {
         Plan {
             task,

@@ -45,7 +45,7 @@ pub extern "C" fn qoriwesh_replay(
     ensures { let r = lent_record level_masks.old level_counts.old level_words.old levels.old in
         let q = lent_record level_masks.new level_counts.new level_words.new levels.new in
         let s = lent 0 state.old policy.old prio.old cpu.old slice.old mask.old rows.old counts.old flags.old online.old log.old in
-        let t = newTables full.new state policy prio cpu slice mask rows counts flags online log in
+        let t = lent full.new state.new policy.new prio.new cpu.new slice.new mask.new rows.new counts.new flags.new online.new log.new in
         told result ending.new place.new n.new times.new moves.new refused.new q t ≡ lent_replayed bytes.now r s (length times.old) }
 {
     fill_u64(times, 0);

@@ -4,7 +4,7 @@ ghost use mathlib.Core.List.{tail};
 ghost use Rattle.cpupri.specs.Level.{level_of};
 ghost use Rattle.rules.specs.Machine.{highest_priority};
 ghost use Rattle.ranking.specs.Row.{ahead};
-ghost use Rattle.waiting.specs.Wanted.{Asked, passing, wanted, least as leastOf, Searchable};
+ghost use Rattle.waiting.specs.Wanted.{Asked, passing, wanted, least as least_of, Searchable};
 
 use cpupri::level::Level;
 use cpupri::record::LEVELS;
@@ -66,7 +66,7 @@ fn passes(test: Test, under: &[u64; LEVELS], task: u16, priority: u8, mask: u64)
 
 // A priority that is below that of every task which passes the test. Priority p is at level p + 2.
 pub fn least(test: Test) -> u8
-    ensures { result ≡ leastOf test }
+    ensures { result ≡ least_of test }
 {
     match test {
         Test::Movable { lowest } => priority_at(lowest),
