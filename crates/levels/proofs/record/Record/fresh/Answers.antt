@@ -1,7 +1,7 @@
 -- `levels::record::Record::fresh` meets its contract. The loop's invariant: the record is that of a machine of as many CPUs as were entered.
 -- Assumes nothing.
 use mathlib.Core.Path.{◌≡◌, refl, ap, ◌∙◌, subst⁻¹}
-use Prim.Native.Nat.{ℕ, suc, ◌-◌, ◌≤◌}
+use Prim.Native.Nat.{ℕ, suc, ◌≤◌}
 use native.Mathlib.Numerals.{add-one}
 use native.Mathlib.Omega.{arith}
 use lib.ListN.{set}
@@ -19,19 +19,20 @@ loop-cpu-init c = (omega arith, refl)
 pub set_level-r-requires : goal.set_level-r-requires
 unfolding record_of known
 set_level-r-requires c =
-    let n = c.before.before.args.n in
-    let cpu = c.before.loop-cpu.cpu in
-    let made : c.before.loop-cpu.r ≡ record_of (fresh_levels cpu) = c.before.loop-cpu.invariant.1 in
-    let below : suc cpu ≤ cpu_places = omega arith in (
-      subst⁻¹ Whole made (fresh_whole cpu (omega arith)),
-      (below, refl),
-    )
+    let n = c.args.n in
+    let cpu = c.loop-cpu.cpu in
+    let made : c.loop-cpu.r ≡ record_of (fresh_levels cpu) = c.loop-cpu.invariant.1 in
+    let below : suc cpu ≤ cpu_places = omega arith in record {
+      whole = subst⁻¹ Whole made (fresh_whole cpu (omega arith));
+      cpu_lt_cpu_places = below;
+      number_value = refl;
+    }
 
 pub loop-cpu-preserved : goal.loop-cpu-preserved
 unfolding record_of
 loop-cpu-preserved c =
-    let cpu = c.before.before.loop-cpu.cpu in
-    let made : c.before.before.loop-cpu.r ≡ record_of (fresh_levels cpu) = c.before.before.loop-cpu.invariant.1 in
+    let cpu = c.loop-cpu.cpu in
+    let made : c.loop-cpu.r ≡ record_of (fresh_levels cpu) = c.loop-cpu.invariant.1 in
     let below : suc cpu ≤ cpu_places = omega arith in (
       omega arith,
       c.set_level-r.ensures ∙ ap (λ (r : Record). record_of (set r.levels cpu idle)) made ∙ ap record_of (fresh_next cpu below)
@@ -40,5 +41,5 @@ loop-cpu-preserved c =
 
 pub returns : goal.returns
 returns c =
-    let all : c.before.loop-cpu.cpu ≡ c.before.before.args.n = omega arith in
-    c.before.loop-cpu.invariant.1 ∙ ap (λ (k : ℕ). record_of (fresh_levels k)) all
+    let all : c.loop-cpu.cpu ≡ c.args.n = omega arith in
+    c.loop-cpu.invariant.1 ∙ ap (λ (k : ℕ). record_of (fresh_levels k)) all
