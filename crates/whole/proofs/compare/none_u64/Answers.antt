@@ -1,0 +1,37 @@
+-- `whole::compare::none_u64` meets its contract. The loop's invariant: the word is 0 exactly if the places passed are.
+-- Assumes nothing.
+use mathlib.Core.Path.{◌≡◌, refl, sym, ap, ◌∙◌}
+use mathlib.Core.List.{List}
+use Prim.Native.Nat.{ℕ, ◌<◌}
+use native.Mathlib.Omega.{arith}
+use lib.Bits.{bit_or, bit_xor, xor_zero_r}
+use lib.Dec.{eqb}
+use lib.ListN.{length, get_or, length-replicate, get_or-replicate}
+use Rattle.whole.specs.Whole.{same}
+use Rattle.whole.proofs.Compared.{compare_more, compare_all}
+use Rattle.whole.proofs.compare.none_u64.Invariants.{zeros}
+use Rattle.whole.proofs.compare.none_u64.Goals as goal
+
+-- a number and its difference to 0
+from_zero : (a : List ℕ) (i : ℕ) → i < length a → get_or a i 0 ≡ bit_xor (get_or a i 0) (get_or (zeros a) i 0)
+from_zero a i h = sym (xor_zero_r (get_or a i 0)) ∙ ap (bit_xor (get_or a i 0)) (sym (get_or-replicate (length a) i 0 0 h))
+
+pub loop-i-init : goal.loop-i-init
+unfolding same
+loop-i-init c = (omega arith, refl)
+
+pub loop-i-preserved : goal.loop-i-preserved
+loop-i-preserved c =
+    let l = c.loop-i in
+    let a = c.args.a.now in
+    let more : l.i < length a = omega arith in (
+      omega arith,
+      ap (λ (x : ℕ). eqb (bit_or l.word x) 0) (from_zero a l.i more)
+          ∙ compare_more a (zeros a) (sym (length-replicate (length a) 0)) l.word l.i l.invariant.1 more,
+    )
+
+pub returns : goal.returns
+returns c =
+    let l = c.loop-i in
+    let a = c.args.a.now in
+    compare_all a (zeros a) (sym (length-replicate (length a) 0)) l.word l.i l.invariant.1 (omega arith)
