@@ -1,0 +1,15 @@
+-- `consistency::each` meets its contract. The loop's invariant: the pass has come to `cpu`.
+-- Assumes nothing.
+use Rattle.std.proofs.Common.{◌≡◌, ℕ, ◌+◌, ◌-◌, ◌<◌, ◌≤◌, Bool, true, get_or, refl, ap, subst, le_refl, arith, rules}
+use borrow.Author.Tests.{not-true, not-false}
+use Rattle.consistency.specs.Gathered.{cpu_bit, Gathers}
+use Rattle.consistency.proofs.CpuBits.{bit_next, one_cpu}
+use Rattle.consistency.proofs.Taken.{gathers_none, gathers_on, gathers_fails}
+use Rattle.consistency.proofs.each.Given as goal
+
+abbrev pub invariant-loop-cpu : goal.invariant-loop-cpu
+invariant-loop-cpu l =
+    (l.start ≤ l.cpu) × (l.cpu ≤ l.end) × (l.cpus ≡ cpu_bit l.cpu) × Gathers l.from l.start l.cpu true l.initial.left l.left l.counts l.words
+
+abbrev pub decreases-loop-cpu : goal.decreases-loop-cpu
+decreases-loop-cpu l = l.end - l.cpu
