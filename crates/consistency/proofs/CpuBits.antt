@@ -1,6 +1,6 @@
 -- A CPU's bit, as the pass over the CPUs keeps it: shifted by one or by eight.
 -- Assumes nothing.
-use Rattle.std.proofs.Common.{◌≡◌, ℕ, ◌+◌, ◌*◌, ◌%◌, ◌^◌, ◌<◌, ◌≤◌, sym, ap, ◌∙◌, arith, pow-add}
+use Rattle.std.proofs.Common.{◌≡◌, ℕ, ◌+◌, ◌*◌, ◌%◌, ◌^◌, ◌<◌, ◌≤◌, arith, pow-add}
 use lib.Pow.{pow-lt}
 use Rattle.consistency.specs.Gathered.{cpu_bit}
 

@@ -1,12 +1,12 @@
 -- The pass over the CPUs: what several more at one level change in masks, counts and words, and that passes in a row are one pass.
 -- Assumes nothing.
-use Rattle.std.proofs.Common.{◌≡◌, ℕ, zero, suc, ◌+◌, ◌-◌, ◌*◌, ◌/◌, ◌%◌, ◌^◌, ◌<◌, ◌≤◌, Bool, true, false, cond, ◌||◌, eqb, ltb, ◌≢◌, List, [], ◌∷◌, length, get_or, set, replicate, sym, refl, ap, ◌∙◌, subst, ap₂, zero-le, le_of_suc-le-suc, not-suc-le-zero, add-zero, add-suc, arith, length-set, get_or-set_other, get_or-set_same, ext_get_or, ltb-false, ltb-true, le-ltb, lt-ltb, eq-eqb, ne_eqb, eqb-true}
+use Rattle.std.proofs.Common.{◌≡◌, ℕ, zero, suc, ◌+◌, ◌-◌, ◌*◌, ◌/◌, ◌%◌, ◌^◌, ◌<◌, ◌≤◌, Bool, true, false, cond, ◌||◌, eqb, ltb, List, [], ◌∷◌, length, get_or, set, replicate, sym, refl, ap, ◌∙◌, subst, ap₂, le_of_suc-le-suc, not-suc-le-zero, add-zero, add-suc, arith, length-set, get_or-set_other, get_or-set_same, ext_get_or, ltb-false, ltb-true, le-ltb, lt-ltb, eq-eqb, ne_eqb, eqb-true}
 use mathlib.Core.Bool.{false≢true}
 use lib.ListN.{length-replicate, get_or-replicate}
 use borrow.Author.Tests.{eqb-false}
 use Rattle.bits.specs.Bit.{digit, packed, tally, with_bit, put_bit}
 use Rattle.levels.specs.Level.{level_count, word_count, cpu_places, invalid, known}
-use Rattle.levels.specs.Record.{table, mask_at, count_at, masks_of, counts_of, active, words_of}
+use Rattle.levels.specs.Record.{table, mask_at, count_at, masks_of, counts_of, words_of}
 use Rattle.levels.proofs.Table.{table_cong, table_set}
 use Rattle.levels.proofs.Moved.{length_masks, length_counts, mask_at_lem, count_at_lem, words_moved}
 use Rattle.levels.proofs.Whole.{no_level, level_known}

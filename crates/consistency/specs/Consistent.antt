@@ -1,6 +1,6 @@
 -- A record that is consistent in itself for n CPUs (W6 without the tables): a test that computes, and what it means.
 -- Assumes nothing.
-use Rattle.std.specs.Prelude.{◌≡◌, ℕ, zero, suc, ◌/◌, ◌%◌, ◌^◌, ◌<◌, ◌≤◌, Bool, true, false, cond, not, ◌&&◌, ◌||◌, ◌≢◌, ◌⊎◌, List, [], ◌∷◌, length, ◌==◌, nat_lt, slice_index}
+use Rattle.std.specs.Prelude.{◌≡◌, ℕ, suc, ◌/◌, ◌%◌, ◌^◌, ◌<◌, ◌≤◌, Bool, true, false, cond, not, ◌&&◌, ◌||◌, ◌≢◌, ◌⊎◌, List, [], ◌∷◌, length, ◌==◌, nat_lt, slice_index}
 use Rattle.bits.specs.Bit.{bit}
 use Rattle.levels.specs.Level.{level_count, word_count, cpu_places, unused, invalid}
 use Rattle.levels.specs.Record.{count_at, active, masks_of, counts_of, words_of}

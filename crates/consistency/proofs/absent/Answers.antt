@@ -1,6 +1,6 @@
 -- `consistency::absent` meets its contract.
 -- Assumes nothing.
-use Rattle.std.proofs.Common.{◌≡◌, ℕ, ◌≤◌, min, List, length, sym, ap, ◌∙◌, arith, rules}
+use Rattle.std.proofs.Common.{◌≡◌, ℕ, min, List, length, sym, ap, ◌∙◌, arith}
 use Rattle.whole.specs.Whole.{same, invalid_from}
 use Rattle.whole.proofs.From.{from_bounded}
 use Rattle.consistency.proofs.absent.Goals as goal

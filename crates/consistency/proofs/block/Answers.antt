@@ -1,6 +1,6 @@
 -- `consistency::block` meets its contract.
 -- Assumes nothing.
-use Rattle.std.proofs.Common.{arith, rules}
+use Rattle.std.proofs.Common.{arith}
 use Rattle.consistency.proofs.CpuBits.{eight_cpus, eight_fit}
 use Rattle.consistency.proofs.block.Goals as goal
 
@@ -21,10 +21,10 @@ returns-then-alike c = c.take.ensures
 
 pub each-requires : goal.each-requires
 each-requires c = record {
-      from_len = c.requires.from_len;
-      start_le_end = (omega arith, c.requires.cpu_bound.0, c.requires.cpu_bound.1);
-      gathered = c.requires.gathered;
-    }
+  from_len = c.requires.from_len;
+  start_le_end = (omega arith, c.requires.cpu_bound.0, c.requires.cpu_bound.1);
+  gathered = c.requires.gathered;
+}
 
 pub returns : goal.returns
 returns c = c.each.ensures

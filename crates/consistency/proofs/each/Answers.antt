@@ -1,8 +1,7 @@
 -- `consistency::each` meets its contract. The loop's invariant: the pass has come to `cpu`.
 -- Assumes nothing.
-use Rattle.std.proofs.Common.{◌≡◌, ℕ, ◌+◌, ◌-◌, ◌<◌, ◌≤◌, Bool, true, get_or, refl, ap, subst, le_refl, arith, rules}
-use borrow.Author.Tests.{not-true, not-false}
-use Rattle.consistency.specs.Gathered.{cpu_bit, Gathers}
+use Rattle.std.proofs.Common.{◌≡◌, ℕ, ◌+◌, ◌<◌, Bool, true, get_or, refl, ap, subst, le_refl, arith}
+use Rattle.consistency.specs.Gathered.{Gathers}
 use Rattle.consistency.proofs.CpuBits.{bit_next, one_cpu}
 use Rattle.consistency.proofs.Taken.{gathers_none, gathers_on, gathers_fails}
 use Rattle.consistency.proofs.each.Goals as goal
@@ -26,7 +25,7 @@ take-requires c =
 pub returns-then-not-take : goal.returns-then-not-take
 returns-then-not-take c =
     let x = c.args in
-    let q = c.take.ensures.none (not-true c.take.result c.if-not-take.true) in
+    let q = c.take.ensures.none c.if-not-take.true in
     gathers_fails x.from.now x.start x.end q.0 (omega (arith, q.1.0, c.loop-cpu-test.true)) q.1.1
 
 pub loop-cpu-smaller : goal.loop-cpu-smaller
@@ -37,12 +36,12 @@ loop-cpu-preserved c =
     let l = c.loop-cpu in
     let x = c.args in
     let t = c.take in
-    let q = c.take_last in (
+    let q = c.take.new in (
       omega (arith, l.invariant.0),
       omega (arith, c.loop-cpu-test.true),
       bit_next l.cpu l.cpus l.invariant.2,
       gathers_on l.invariant.0 (omega arith) l.invariant.3
-          (subst (λ (b : Bool). Gathers x.from.now l.cpu (l.cpu + 1) b l.left q.left q.counts q.words) (not-false t.result c.if-not-take.false) t.ensures),
+          (subst (λ (b : Bool). Gathers x.from.now l.cpu (l.cpu + 1) b l.left q.left q.counts q.words) c.if-not-take.false t.ensures),
     )
 
 pub returns : goal.returns

@@ -1,10 +1,7 @@
 -- `consistency::each` meets its contract. The loop's invariant: the pass has come to `cpu`.
 -- Assumes nothing.
-use Rattle.std.proofs.Common.{◌≡◌, ℕ, ◌+◌, ◌-◌, ◌<◌, ◌≤◌, Bool, true, get_or, refl, ap, subst, le_refl, arith, rules}
-use borrow.Author.Tests.{not-true, not-false}
+use Rattle.std.proofs.Common.{◌≡◌, ◌-◌, ◌≤◌, true}
 use Rattle.consistency.specs.Gathered.{cpu_bit, Gathers}
-use Rattle.consistency.proofs.CpuBits.{bit_next, one_cpu}
-use Rattle.consistency.proofs.Taken.{gathers_none, gathers_on, gathers_fails}
 use Rattle.consistency.proofs.each.Given as goal
 
 abbrev pub invariant-loop-cpu : goal.invariant-loop-cpu

@@ -1,13 +1,12 @@
 -- `consistency::is_consistent` meets its contract.
 -- Assumes nothing.
-use Rattle.std.proofs.Common.{◌≡◌, ℕ, ◌^◌, ◌<◌, ◌≤◌, min, Bool, true, false, List, length, get_or, sym, refl, ap, ◌∙◌, subst, zero-le, arith, rules}
-use borrow.Author.Tests.{not-true, not-false}
-use Rattle.levels.specs.Level.{level_count, word_count, cpu_places, known}
+use Rattle.std.proofs.Common.{◌≡◌, ℕ, ◌<◌, min, true, List, length, get_or, sym, refl, ap, ◌∙◌, zero-le, arith}
+use Rattle.levels.specs.Level.{level_count, cpu_places, known}
 use Rattle.levels.specs.Record.{lent_record, masks_of, counts_of, words_of}
 use Rattle.levels.specs.declared.record.Record.{Record}
 use Rattle.levels.proofs.Moved.{length_counts}
 use Rattle.whole.specs.Whole.{same, invalid_from}
-use Rattle.consistency.specs.Gathered.{Gathered, Left}
+use Rattle.consistency.specs.Gathered.{Left}
 use Rattle.whole.proofs.From.{from_bounded}
 use Rattle.consistency.proofs.Gathered.{unfit, tested}
 use Rattle.consistency.proofs.Taken.{gathered_start, left_start, left_none}
@@ -36,18 +35,18 @@ module _ (c : After-places) where
 
 module _ (c : Else-not-gather) where
   passed : c.gather.result ≡ true
-  passed = let k = c in not-false k.gather.result k.if-not-gather.false
+  passed = let k = c in k.if-not-gather.false
 
   all : let k = c in (i : ℕ) → i < k.args.n → i < length k.args.levels.now → known (get_or k.args.levels.now i 0) ≡ true
   all i h hi = let k = c in k.gather.ensures.all passed i zero-le (omega (arith, h, hi, k.requires.levels, end_is (goal.at.Else-not-gather k).After-places))
 
   counts_are : let k = c in k.gather.new.counts ≡ counts_of (right (goal.at.Else-not-gather k).Start)
-  counts_are = let k = c in (k.gather.ensures.right passed).counts-are ∙ ap counts_of (bounded (goal.at.Else-not-gather k).After-places)
+  counts_are = let k = c in (k.gather.ensures.right passed).counts_are ∙ ap counts_of (bounded (goal.at.Else-not-gather k).After-places)
 
   words_are : let k = c in k.gather.new.words ≡ words_of (counts_of (right (goal.at.Else-not-gather k).Start))
   words_are = let k = c in (k.gather.ensures.right passed).words_are ∙ ap words_of counts_are
 
-  left_is : let k = c in Left k.args.levels.now k.places.result k.args.masks.now k.gather.new.false
+  left_is : let k = c in Left k.args.levels.now k.places.result k.args.masks.now k.gather.new.left
   left_is =
       let k = c in
       k.gather.ensures.takes passed k.args.masks.now
@@ -66,7 +65,7 @@ gather-requires c =
 
 pub returns-then-not-gather : goal.returns-then-not-gather
 returns-then-not-gather c =
-    let q = c.gather.ensures.none (not-true c.gather.result c.if-not-gather.true) in
+    let q = c.gather.ensures.none c.if-not-gather.true in
     let e = end_is (goal.at.returns-then-not-gather c).After-places in
     unfit c.args.n (lent (goal.at.returns-then-not-gather c).Start) q.0 (omega (arith, q.1.0, e)) (omega (arith, q.1.0, e, c.requires.levels)) q.1.1
 
@@ -89,7 +88,7 @@ returns c =
     let x = c.args in
     let s = (goal.at.returns c).Start in
     let none =
-    c.none_u64.ensures ∙ left_none x.levels.now c.places.result x.masks.now c.gather.new.false c.requires.mask c.requires.masks c.requires.levels (left_is (goal.at.returns c).Else-not-gather)
+    c.none_u64.ensures ∙ left_none x.levels.now c.places.result x.masks.now c.gather.new.left c.requires.mask c.requires.masks c.requires.levels (left_is (goal.at.returns c).Else-not-gather)
     ∙ ap (λ (ls : List ℕ). same x.masks.now (masks_of ls)) (bounded (goal.at.returns c).After-places) in
     tested x.n (lent s) (all (goal.at.returns c).Else-not-gather) c.none_u64.result c.same_u8.result c.same_u64.result _ c.absent.result
     none (c.same_u8.ensures ∙ ap (same x.counts.now) (counts_are (goal.at.returns c).Else-not-gather)) (c.same_u64.ensures ∙ ap (same x.words.now) (words_are (goal.at.returns c).Else-not-gather)) refl

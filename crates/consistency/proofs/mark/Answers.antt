@@ -1,6 +1,6 @@
 -- `consistency::mark` meets its contract.
 -- Assumes nothing.
-use Rattle.std.proofs.Common.{◌≡◌, ℕ, ◌-◌, ◌/◌, ◌%◌, ◌<◌, ◌≤◌, List, get_or, set, sym, ap, ◌∙◌, ap₂, arith, rules}
+use Rattle.std.proofs.Common.{◌≡◌, ℕ, ◌-◌, ◌/◌, ◌%◌, List, get_or, set, ap, ◌∙◌, ap₂, arith}
 use Rattle.bits.specs.Bit.{with_bit}
 use Rattle.consistency.proofs.mark.Goals as goal
 

@@ -1,5 +1,1 @@
 -- `consistency::places` meets its contract. Assumes nothing.
-use Rattle.std.proofs.Common.{arith}
-use Rattle.consistency.proofs.places.Goals as goal
-
-
