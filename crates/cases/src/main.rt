@@ -1,6 +1,8 @@
 // Cases beyond the marked examples. They are its standard input: crate `script` says how a line is read.
 #![tactic(auto)]
 
-fn main() {
-    script::run();
+use std::io;
+
+fn main(rt: HostRuntime) -> io::Result<()> {
+    script::run(&rt)
 }

@@ -7,47 +7,49 @@ ghost use Rattle.std.specs.Prelude.{◌<◌};
 use cpupri::find::Found;
 use cpupri::level::Level;
 use cpupri::record::Record;
-use libc::STDOUT_FILENO;
+use std::io;
+use std::io::Write;
 
-fn main() {
-    one_cpu();
-    three_cpus();
-    all_cpus();
+fn main(rt: HostRuntime) -> io::Result<()> {
+    let mut out = io::writer(&rt);
+    one_cpu(&mut out)?;
+    three_cpus(&mut out)?;
+    all_cpus(&mut out)
 }
 
-fn one_cpu() {
+fn one_cpu<W: Write>(out: &mut W) -> io::Result<()> {
     let r = Record::fresh(1);
-    ask(1, r, 52, 1);
-    ask(1, r, 1, 1);
-    ask(1, r, 0, 1);
-    ask(0, r, 52, 1);
-    ask(65, r, 52, 1);
-    ask(2, r, 52, 1);
-    ask(1, r, 102, 1);
-    ask(1, r, 52, 0);
-    ask(1, r, 52, 2);
+    ask(out, 1, r, 52, 1)?;
+    ask(out, 1, r, 1, 1)?;
+    ask(out, 1, r, 0, 1)?;
+    ask(out, 0, r, 52, 1)?;
+    ask(out, 65, r, 52, 1)?;
+    ask(out, 2, r, 52, 1)?;
+    ask(out, 1, r, 102, 1)?;
+    ask(out, 1, r, 52, 0)?;
+    ask(out, 1, r, 52, 2)
 }
 
 // CPU 0 runs priority 50, CPU 1 ordinary work, CPU 2 nothing; then CPU 2 goes to priority 99.
-fn three_cpus() {
+fn three_cpus<W: Write>(out: &mut W) -> io::Result<()> {
     let mut r = Record::fresh(3);
     r = r.set_level(0, Level::of_priority(50));
     r = r.set_level(1, Level::ORDINARY);
-    ask(3, r, 52, 7);
-    ask(3, r, 52, 3);
-    ask(3, r, 52, 1);
-    ask(3, r, 53, 1);
-    ask(3, r, 1, 2);
+    ask(out, 3, r, 52, 7)?;
+    ask(out, 3, r, 52, 3)?;
+    ask(out, 3, r, 52, 1)?;
+    ask(out, 3, r, 53, 1)?;
+    ask(out, 3, r, 1, 2)?;
     r = r.set_level(2, Level::of_priority(99));
-    ask(3, r, 101, 7);
-    ask(3, r, 101, 4);
+    ask(out, 3, r, 101, 7)?;
+    ask(out, 3, r, 101, 4)?;
     r = r.set_level(2, Level::INVALID);
-    ask(2, r, 101, 3);
-    ask(3, r, 101, 7);
+    ask(out, 2, r, 101, 3)?;
+    ask(out, 3, r, 101, 7)
 }
 
 // CPU c runs priority 99 - c.
-fn all_cpus() {
+fn all_cpus<W: Write>(out: &mut W) -> io::Result<()> {
     let mut r = Record::fresh(64);
     let mut cpu = 0;
     while cpu < 64 {
@@ -55,47 +57,33 @@ fn all_cpus() {
         r = r.set_level(cpu, Level::of_priority(priority));
         cpu += 1;
     }
-    ask(64, r, 101, 0xffff_ffff_ffff_ffff);
-    ask(64, r, 101, 0x0000_0000_ffff_fff0);
-    ask(64, r, 38, 0xffff_ffff_ffff_ffff);
-    ask(64, r, 39, 0xffff_ffff_ffff_ffff);
-    ask(63, r, 101, 1);
+    ask(out, 64, r, 101, 0xffff_ffff_ffff_ffff)?;
+    ask(out, 64, r, 101, 0x0000_0000_ffff_fff0)?;
+    ask(out, 64, r, 38, 0xffff_ffff_ffff_ffff)?;
+    ask(out, 64, r, 39, 0xffff_ffff_ffff_ffff)?;
+    ask(out, 63, r, 101, 1)
 }
 
 // One question and its answer on a line.
-fn ask(n: usize, r: Record, level: u32, mask: u64) {
-    io::write_all(STDOUT_FILENO, b"N ");
-    io::print_decimal(STDOUT_FILENO, n as u64);
-    io::write_all(STDOUT_FILENO, b", below level ");
-    io::print_decimal(STDOUT_FILENO, level as u64);
-    io::write_all(STDOUT_FILENO, b", mask ");
-    io::print_decimal(STDOUT_FILENO, mask);
-    answer(cpupri::find::find(n, r, level, mask));
+fn ask<W: Write>(out: &mut W, n: usize, r: Record, level: u32, mask: u64) -> io::Result<()> {
+    write!(out, "N {n}, below level {level}, mask {mask}")?;
+    answer(out, cpupri::find::find(n, r, level, mask))
 }
 
-fn answer(found: Found) {
+fn answer<W: Write>(out: &mut W, found: Found) -> io::Result<()> {
     match found {
         Found::Cpus { level, mask, read } => {
-            io::write_all(STDOUT_FILENO, b": level ");
-            io::print_decimal(STDOUT_FILENO, level as u64);
-            io::write_all(STDOUT_FILENO, b", CPUs ");
-            io::print_decimal(STDOUT_FILENO, mask);
-            masks_read(read);
+            write!(out, ": level {level}, CPUs {mask}")?;
+            masks_read(out, read)
         }
         Found::Nothing { read } => {
-            io::write_all(STDOUT_FILENO, b": none");
-            masks_read(read);
+            write!(out, ": none")?;
+            masks_read(out, read)
         }
-        Found::Refused(number) => {
-            io::write_all(STDOUT_FILENO, b": refused ");
-            io::print_decimal(STDOUT_FILENO, number as u64);
-            io::write_all(STDOUT_FILENO, b"\n");
-        }
+        Found::Refused(number) => writeln!(out, ": refused {number}"),
     }
 }
 
-fn masks_read(read: u32) {
-    io::write_all(STDOUT_FILENO, b", masks read ");
-    io::print_decimal(STDOUT_FILENO, read as u64);
-    io::write_all(STDOUT_FILENO, b"\n");
+fn masks_read<W: Write>(out: &mut W, read: u32) -> io::Result<()> {
+    writeln!(out, ", masks read {read}")
 }

@@ -1,45 +1,47 @@
-// What a script's programs print: an answer, and the tables.
+// What a script's programs print: an answer, and the tables. Each function writes to the writer that it is given, and hands on the error of a write
+// that fails.
 #![tactic(auto)]
 
-use libc::STDOUT_FILENO;
+use std::io;
+use std::io::Write;
 
-pub fn text(words: &[u8]) {
-    io::write_all(STDOUT_FILENO, words);
+pub fn text<W: Write>(out: &mut W, words: &[u8]) -> io::Result<()> {
+    out.write_all(words)
 }
 
 // A number with what stands before it.
-fn number(before: &[u8], x: u64) {
-    io::write_all(STDOUT_FILENO, before);
-    io::print_decimal(STDOUT_FILENO, x);
+fn number<W: Write>(out: &mut W, before: &[u8], x: u64) -> io::Result<()> {
+    text(out, before)?;
+    write!(out, "{x}")
 }
 
-pub fn answer(x: u8) {
-    number(b": answer ", x as u64);
-    text(b"\n");
+pub fn answer<W: Write>(out: &mut W, x: u8) -> io::Result<()> {
+    number(out, b": answer ", x as u64)?;
+    text(out, b"\n")
 }
 
 // The answer to a maker, and the full slice that it handed back.
-pub fn made(answer: u8, slice: u32) {
-    number(b": answer ", answer as u64);
-    number(b", slice ", slice as u64);
-    text(b"\n");
+pub fn made<W: Write>(out: &mut W, answer: u8, slice: u32) -> io::Result<()> {
+    number(out, b": answer ", answer as u64)?;
+    number(out, b", slice ", slice as u64)?;
+    text(out, b"\n")
 }
 
 // The answer to an event and the number of moves.
-pub fn answered(answer: u8, moves: u32) {
-    number(b": answer ", answer as u64);
-    number(b", moves ", moves as u64);
+pub fn answered<W: Write>(out: &mut W, answer: u8, moves: u32) -> io::Result<()> {
+    number(out, b": answer ", answer as u64)?;
+    number(out, b", moves ", moves as u64)
 }
 
 // Numbers that belong together, as those of a log entry.
-pub fn tuple(numbers: &[u16]) {
-    text(b" (");
+pub fn tuple<W: Write>(out: &mut W, numbers: &[u16]) -> io::Result<()> {
+    text(out, b" (")?;
     let mut i = 0;
     while i < numbers.len() {
-        listed(i, at(numbers, i));
+        listed(out, i, at(numbers, i))?;
         i += 1;
     }
-    text(b")");
+    text(out, b")")
 }
 
 // The number at place i, or 65535 beyond the end.
@@ -55,52 +57,54 @@ fn wide(x: u16) -> u64 {
 }
 
 // The tasks of each row.
-pub fn rows(n: u8, rows: &[u16], counts: &[u16]) {
-    text(b"  rows");
+pub fn rows<W: Write>(out: &mut W, n: u8, rows: &[u16], counts: &[u16]) -> io::Result<()> {
+    text(out, b"  rows")?;
     let mut c = 0;
     while c < n {
-        row(rows, c, at(counts, c as usize));
+        row(out, rows, c, at(counts, c as usize))?;
         c += 1;
     }
+    Ok(())
 }
 
-fn row(rows: &[u16], c: u8, count: u64) {
-    text(b" [");
+fn row<W: Write>(out: &mut W, rows: &[u16], c: u8, count: u64) -> io::Result<()> {
+    text(out, b" [")?;
     let mut i = 0;
     while i < 512 {
         if (i as u64) < count {
-            listed(i, at(rows, 512 * (c as usize) + i));
+            listed(out, i, at(rows, 512 * (c as usize) + i))?;
         }
         i += 1;
     }
-    text(b"]");
+    text(out, b"]")
 }
 
 // Number i of a list.
-fn listed(i: usize, x: u64) {
+fn listed<W: Write>(out: &mut W, i: usize, x: u64) -> io::Result<()> {
     if i != 0 {
-        text(b",");
+        text(out, b",")?;
     }
-    number(b"", x);
+    number(out, b"", x)
 }
 
-pub fn counts(n: u8, counts: &[u16]) {
-    text(b"; counts");
+pub fn counts<W: Write>(out: &mut W, n: u8, counts: &[u16]) -> io::Result<()> {
+    text(out, b"; counts")?;
     let mut c = 0;
     while c < n {
-        number(b" ", at(counts, c as usize));
+        number(out, b" ", at(counts, c as usize))?;
         c += 1;
     }
+    Ok(())
 }
 
-pub fn levels(n: u8, levels: &[u8; 64]) {
-    text(b"; levels");
+pub fn levels<W: Write>(out: &mut W, n: u8, levels: &[u8; 64]) -> io::Result<()> {
+    text(out, b"; levels")?;
     let mut c = 0;
     while c < n {
-        number(b" ", level(levels, c as usize));
+        number(out, b" ", level(levels, c as usize))?;
         c += 1;
     }
-    text(b"\n");
+    text(out, b"\n")
 }
 
 // The level of CPU c, or 255 if there is no such CPU.
@@ -124,15 +128,16 @@ fn wide8(x: u8) -> u64 {
 }
 
 // Of each task that is not free: its CPU and its slice.
-pub fn tasks(state: &[u8], cpu: &[u8], slice: &[u16]) {
+pub fn tasks<W: Write>(out: &mut W, state: &[u8], cpu: &[u8], slice: &[u16]) -> io::Result<()> {
     let mut t = 0;
     while t < 512 {
         if byte(state, t) != 0 {
-            number(b"  task ", t as u64);
-            number(b": CPU ", byte(cpu, t));
-            number(b", slice ", at(slice, t));
-            text(b"\n");
+            number(out, b"  task ", t as u64)?;
+            number(out, b": CPU ", byte(cpu, t))?;
+            number(out, b", slice ", at(slice, t))?;
+            text(out, b"\n")?;
         }
         t += 1;
     }
+    Ok(())
 }

@@ -17,103 +17,107 @@
 // Any other line is a title.
 #![tactic(auto)]
 
-ghost use Rattle.std.specs.Prelude.{◌≤◌, length};
+ghost use Rattle.std.specs.Prelude.{◌≤◌, IfOk, length};
 
 mod line;
 mod tables;
 
-use libc::STDIN_FILENO;
 use line::{Line, small, word};
 use rules::answer::ACCEPTED;
 use rules::log::{ENTRIES, ENTRY, LOG};
+use std::io;
+use std::io::{BufWriter, Read, Write};
 use tables::{Event, Tables};
 
 const ADD: u32 = 1;
 
-// The script on standard input.
-pub fn run() {
-    let mut text = io::large_buffer();
-    let length = io::read_full(STDIN_FILENO, &mut text);
-    lines(&text[..length]);
+// The script on standard input: its first 65536 bytes. A read or a write that fails ends it with that error.
+pub fn run(rt: &(impl Alloc + Input + Print)) -> io::Result<()> {
+    let mut text = [0u8; 65536];
+    let length = filled(&mut rt.reader(), &mut text)?;
+    let mut out = BufWriter::new(rt.alloc(), io::writer(rt))?;
+    lines(&mut out, &text[..length])?;
+    out.flush()
+}
+
+// How much of the text was read: all of it, unless the input ended before.
+fn filled<R: Read>(input: &mut R, text: &mut [u8]) -> io::Result<usize>
+    ensures { IfOk result (λ n. n ≤ length text.new) }
+{
+    let mut done = 0;
+    while done < text.len() {
+        let n = input.read(&mut text[done..])?;
+        if n == 0 {
+            break;
+        }
+        done += n;
+    }
+    Ok(done)
 }
 
 // Line after line.
-fn lines(text: &[u8]) {
+fn lines<W: Write>(out: &mut W, text: &[u8]) -> io::Result<()> {
     let mut t = Tables::fresh(0, false, 0);
     let mut at = 0;
     while at < text.len() {
         let line = line::read(text, at);
         let end = line.end;
-        echo(text, at, end);
-        t = done(t, line);
+        echo(out, text, at, end)?;
+        t = done(out, t, line)?;
         at = end + 1;
     }
+    Ok(())
 }
 
 // Prints a line, unless it is for the reader of the script alone.
-fn echo(text: &[u8], from: usize, end: usize)
-    requires from_le_end { from ≤ end }
-    requires end_in_bounds { end ≤ length text.now } {
-    let mut t = Tables::fresh(0, false, 0);
-    let mut at = 0;
-    while at < text.len() {
-        let line = line::read(text, at);
-        let end = line.end;
-        echo(text, at, end);
-        t = done(t, line);
-        at = end + 1;
-    }
-}
-
-// Prints a line, unless it is for the reader of the script alone.
-fn echo(text: &[u8], from: usize, end: usize)
-    requires from_le_end { from ≤ end }
-    requires end_in_bounds { end ≤ length text.now }
+fn echo<W: Write>(out: &mut W, text: &[u8], from: usize, end: usize) -> io::Result<()>
     requires from_le_end { from ≤ end }
     requires end_in_bounds { end ≤ length text.now }
 {
     if line::byte_at(text, from) != b'#' {
-        print::text(&text[from..end]);
+        print::text(out, &text[from..end])?;
     }
+    Ok(())
 }
 
 // What a line asks for, with its answer printed.
-fn done(t: Tables, line: Line) -> Tables {
+fn done<W: Write>(out: &mut W, t: Tables, line: Line) -> io::Result<Tables> {
     let x = line.numbers;
     let first = line.first;
     match first {
-        b'#' => t,
-        b'f' => made(Tables::fresh(small(x.d), true, word(x.e))),
-        b'd' => made(Tables::fresh(small(x.e), false, 0)),
-        b'h' => silent(t.handing(word(x.e))),
-        b'c' => checked(t),
-        b'l' => silent(t.put(x.c, x.d, x.e)),
-        b'g' => silent(t.give(x.b, x.c, x.d, x.e)),
-        b'n' => silent(t.lending(small(x.e))),
+        b'#' => Ok(t),
+        b'f' => made(out, Tables::fresh(small(x.d), true, word(x.e))),
+        b'd' => made(out, Tables::fresh(small(x.e), false, 0)),
+        b'h' => silent(out, t.handing(word(x.e))),
+        b'c' => checked(out, t),
+        b'l' => silent(out, t.put(x.c, x.d, x.e)),
+        b'g' => silent(out, t.give(x.b, x.c, x.d, x.e)),
+        b'n' => silent(out, t.lending(small(x.e))),
         b'a' | b'k' | b'm' | b'o' | b'p' | b'r' | b's' | b't' | b'w' | b'y' => asked(
+            out,
             t,
             event(line),
         ),
-        _ => silent(t),
+        _ => silent(out, t),
     }
 }
 
 // Nothing is answered.
-fn silent(t: Tables) -> Tables {
-    print::text(b"\n");
-    t
+fn silent<W: Write>(out: &mut W, t: Tables) -> io::Result<Tables> {
+    print::text(out, b"\n")?;
+    Ok(t)
 }
 
 // A fresh machine, with the maker's answer.
-fn made(t: Tables) -> Tables {
+fn made<W: Write>(out: &mut W, t: Tables) -> io::Result<Tables> {
     let last = t.last;
-    print::made(last.answer, t.full);
-    t
+    print::made(out, last.answer, t.full)?;
+    Ok(t)
 }
 
-fn checked(t: Tables) -> Tables {
-    print::answer(t.check());
-    t
+fn checked<W: Write>(out: &mut W, t: Tables) -> io::Result<Tables> {
+    print::answer(out, t.check())?;
+    Ok(t)
 }
 
 // The event of a line: its last four numbers; an event by its kind has that before them.
@@ -142,46 +146,48 @@ fn event(line: Line) -> Event {
 }
 
 // An event with its answer.
-fn asked(t: Tables, e: Event) -> Tables {
+fn asked<W: Write>(out: &mut W, t: Tables, e: Event) -> io::Result<Tables> {
     let after = t.event(e);
-    told(after, e.kind);
-    after
+    told(out, after, e.kind)?;
+    Ok(after)
 }
 
 // The answer to an event of this kind, and the tables after it unless it was refused or an add.
-fn told(t: Tables, kind: u32) {
+fn told<W: Write>(out: &mut W, t: Tables, kind: u32) -> io::Result<()> {
     let last = t.last;
     let log = t.log;
-    print::answered(last.answer, last.moves);
-    entries(last.moves, log);
-    print::text(b"\n");
+    print::answered(out, last.answer, last.moves)?;
+    entries(out, last.moves, log)?;
+    print::text(out, b"\n")?;
     if last.answer == ACCEPTED && kind != ADD {
-        shown(t);
+        shown(out, t)?;
     }
+    Ok(())
 }
 
 // The log's entries, as many as there were moves.
-fn entries(moves: u32, log: [u16; LOG]) {
+fn entries<W: Write>(out: &mut W, moves: u32, log: [u16; LOG]) -> io::Result<()> {
     let mut i = 0;
     while i < ENTRIES {
         if (i as u32) < moves {
-            print::tuple(&log[ENTRY * i..ENTRY * i + ENTRY]);
+            print::tuple(out, &log[ENTRY * i..ENTRY * i + ENTRY])?;
         }
         i += 1;
     }
+    Ok(())
 }
 
 // The rows, counts and levels of the CPUs, and the tasks.
-fn shown(t: Tables) {
+fn shown<W: Write>(out: &mut W, t: Tables) -> io::Result<()> {
     let rows = t.rows;
     let counts = t.counts;
-    print::rows(t.n, &rows, &counts);
-    print::counts(t.n, &counts);
+    print::rows(out, t.n, &rows, &counts)?;
+    print::counts(out, t.n, &counts)?;
     let record = t.record();
     let levels = record.levels;
-    print::levels(t.n, &levels);
+    print::levels(out, t.n, &levels)?;
     let state = t.state;
     let cpu = t.cpu;
     let slice = t.slice;
-    print::tasks(&state, &cpu, &slice);
+    print::tasks(out, &state, &cpu, &slice)
 }
