@@ -130,7 +130,7 @@ pub fn requeue(
     if rows[home * PLACES] == task {
         return Candidates {
             fallen: CPUS,
-            new: NOTHING,
+            new: NOTHING, // it runs still
         };
     }
     Candidates {
