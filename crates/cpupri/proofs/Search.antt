@@ -10,7 +10,7 @@ use lib.Bits.{bit_and, and_zero_l}
 use lib.Dec.{eqb, ltb}
 use lib.ListN.{get_or}
 use borrow.Author.Tests.{eqb-true, eqb-false, eq-eqb, ne_eqb, ltb-true, ltb-false, not-false}
-use Rattle.bits.specs.Bit.{bit, without_bit, first, count, lowest, weight}
+use Rattle.bits.specs.Bit.{bit, without_bit, count, lowest, weight}
 use Rattle.bits.proofs.Word.{bit_put_same, bit_put_other, bit_of_zero}
 use Rattle.bits.proofs.Search.{first_is, first_none, first_before, count_cong, count_split, weight_mod}
 use Rattle.bits.proofs.Packed.{packed_none, none_packed}

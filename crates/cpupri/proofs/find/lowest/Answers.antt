@@ -1,6 +1,5 @@
 -- `cpupri::find::lowest` meets its contract.
 -- Assumes nothing.
-use borrow.Author.Rules.{rules}
 use mathlib.Core.Path.{◌≡◌, sym, ap, ◌∙◌, subst}
 use mathlib.Core.List.{List}
 use Prim.Native.Nat.{ℕ, suc, ◌+◌, ◌≤◌, ◌<◌}
@@ -12,10 +11,7 @@ use Rattle.cpupri.specs.Found.{allowed_at, lowest_level, occupied_below, lowest_
 use Rattle.cpupri.specs.declared.find.Found.TheVariants.{Cpus, Nothing}
 use Rattle.cpupri.proofs.Found.{finds, finds_nothing}
 use Rattle.cpupri.proofs.Search.{occupied_marked}
-use Rattle.cpupri.proofs.find.lowest.Statement.{statement}
-use Rattle.cpupri.proofs.find.lowest.Tie as tie
-use Rattle.cpupri.proofs.find.lowest.Proof.Paths as at
-mod Paths
+use Rattle.cpupri.proofs.find.lowest.Goals as goal
 
 module _ (masks words : List ℕ) (m : Marked masks words) (below mask : ℕ) (most : below ≤ level_count) (l read : ℕ) (is : l ≡ lowest_level masks below mask) where
   no_level : below ≤ l → read ≡ count (marked words) below → Nothing read ≡ lowest_found masks below mask
@@ -27,42 +23,28 @@ module _ (masks words : List ℕ) (m : Marked masks words) (below mask : ℕ) (m
       ∙ ap (λ (i : ℕ). Cpus i (allowed_at masks mask i) (occupied_below masks (suc i))) is
       ∙ sym (finds masks below mask (subst (λ (i : ℕ). i < below) is h))
 
-lowest-level-requires : tie.Need-lowest-level-requires
-lowest-level-requires c κs = (at.lowest-level-requires c).requires
+pub lowest_level-level-requires : goal.lowest_level-level-requires
+lowest_level-level-requires c = record {
+  below_le_level_count = c.requires.below_le_level_count;
+  marked = c.requires.marked;
+  masks_len = c.requires.masks_len;
+}
 
-marked-below-requires : tie.Need-marked-below-requires
-marked-below-requires c κs = omega (arith, (at.marked-below-requires c).requires.0)
+pub marked_below-requires : goal.marked_below-requires
+marked_below-requires c = record {
+  end_le_level_count = c.requires.below_le_level_count;
+  words_len = c.requires.masks_len.1;
+}
 
-returns : tie.Need-returns
-returns c =
-    let k = at.returns c in
-    let x = k.args in
-    no_level x.masks.now x.words.now k.pre.1.0 x.below x.mask k.pre.0 k.lowest-level.result k.marked-below.result k.lowest-level.ensures
-    k.if1.taken k.marked-below.ensures
+pub returns-then-below-level : goal.returns-then-below-level
+returns-then-below-level c =
+    let x = c.args in
+    no_level x.masks.now x.words.now c.requires.marked x.below x.mask c.requires.below_le_level_count c.lowest_level-level.result c.marked_below.result c.lowest_level-level.ensures
+    c.if-below-level.true c.marked_below.ensures
 
-cast : at.Need-cast
-cast c = search rules
-
-mul : at.Need-mul
-mul c = search rules
-
-shared-slice-read : at.Need-shared-slice-read
-shared-slice-read c = search rules
-
-add-marked-below : tie.Need-overflow-add-marked-below
-add-marked-below c = search rules
-
-marked-below-requires-2 : tie.Need-marked-below-requires-2
-marked-below-requires-2 c κs = search rules
-
-returns-2 : tie.Need-returns-2
+pub returns : goal.returns
 unfolding allowed_at
-returns-2 c =
-    let k = at.returns-2 c in
-    let x = k.args in
-    some_level x.masks.now x.words.now k.pre.1.0 x.below x.mask k.pre.0 k.lowest-level.result k.marked-below2.result k.lowest-level.ensures
-    k.if1.left k.marked-below2.ensures
-
-pub lowest_spec : {M : Type 1} → statement M
-lowest_spec =
-    at.close lowest-level-requires marked-below-requires returns cast mul shared-slice-read add-marked-below marked-below-requires-2 returns-2
+returns c =
+    let x = c.args in
+    some_level x.masks.now x.words.now c.requires.marked x.below x.mask c.requires.below_le_level_count c.lowest_level-level.result c.marked_below-2.result c.lowest_level-level.ensures
+    c.if-below-level.false c.marked_below-2.ensures

@@ -4,14 +4,11 @@ use borrow.Author.Rules.{rules}
 use lib.ListN.{get_or}
 use mir.Syntax.{w64}
 use mir.Val.{Fits}
-use Rattle.cpupri.proofs.find.find.Statement.{statement}
-use Rattle.cpupri.proofs.find.find.Tie as tie
-use Rattle.cpupri.proofs.find.find.Proof.Paths as at
-mod Paths
+use Rattle.cpupri.proofs.find.find.Goals as goal
 
-find-in-requires : tie.Need-find-in-requires
-find-in-requires c κs =
-    let r = (at.find-in-requires c).args.t2 in
+pub find_in-requires : goal.find_in-requires
+find_in-requires c =
+    let r = c.args.r in
     record {
       masks = search rules;
       counts = search rules;
@@ -21,8 +18,5 @@ find-in-requires c κs =
       word = λ i. let f : Fits w64 (get_or r.words i 0) = search rules in f.fits;
     }
 
-returns : tie.Need-returns
-returns c = (at.returns c).find-in.ensures
-
-pub find_spec : {M : Type 1} → statement M
-find_spec = at.close find-in-requires returns
+pub returns : goal.returns
+returns c = c.find_in.ensures

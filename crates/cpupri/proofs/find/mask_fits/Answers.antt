@@ -9,8 +9,8 @@ use lib.Pow.{pow_pos}
 use borrow.Author.Tests.{eq-eqb, ne_eqb, lt-ltb, ltb-true, ltb-false}
 use Rattle.cpupri.specs.Found.{mask_fits}
 use Rattle.levels.proofs.Whole.{active_is}
-use Rattle.cpupri.proofs.find.mask_fits.Statement.{statement}
-use Rattle.cpupri.proofs.find.mask_fits.Tie as tie
+use Rattle.cpupri.proofs.find.mask_fits.Goals.{Start}
+use Rattle.cpupri.proofs.find.mask_fits.Goals as goal
 
 shown : (m : ℕ) → not (eqb m 0) ≡ (ltb 0 m && true)
 shown m = sym (active_is m) ∙ go (ltb 0 m)
@@ -30,21 +30,15 @@ shifted_out m n = go (ltb m (2 ^ n)) refl
         let some : 1 ≤ m / 2 ^ n = (le-div_iff_mul-le (pow_pos n)).1 (rw one-mul large) in
         ne_eqb (m / 2 ^ n) 0 (λ z. omega arith)
 
-returns : tie.Need-returns
+pub returns-then-n-eq-CPUS : goal.returns-then-n-eq-CPUS
 unfolding mask_fits
-returns c =
-    let a = c.before in
-    let below : a.args.mask < 2 ^ a.args.n = subst (λ (k : ℕ). a.args.mask < 2 ^ k) (sym c.if1.true) a.ranges.mask.fits in
+returns-then-n-eq-CPUS c =
+    let a = (goal.at.returns-then-n-eq-CPUS c).Start in
+    let below : a.args.mask < 2 ^ a.args.n = subst (λ (k : ℕ). a.args.mask < 2 ^ k) (sym c.if-n-eq-CPUS.true) a.ranges.mask.fits in
     shown a.args.mask ∙ ap (λ (b : Bool). ltb 0 a.args.mask && b) (sym (lt-ltb a.args.mask (2 ^ a.args.n) below))
 
-shr-result : tie.Need-overflow-shr-result
-shr-result c = omega arith
-
-returns-2 : tie.Need-returns-2
+pub returns : goal.returns
 unfolding mask_fits
-returns-2 c =
-    let a = c.before.args in
+returns c =
+    let a = c.args in
     ap₂ ◌&&◌ (sym (active_is a.mask)) (shifted_out a.mask a.n)
-
-pub mask_fits_spec : {M : Type 1} → statement M
-mask_fits_spec = tie.close (tie.spec returns shr-result returns-2)
