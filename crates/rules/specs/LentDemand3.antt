@@ -1,6 +1,6 @@
 -- Demand 3 once more, of what the caller holds after an accepted event: over the numbers of the log and the tables.
 -- Assumes nothing.
-use Rattle.std.specs.Prelude.{◌≡◌, true, List, ◌≢◌, ℕ, ◌+◌, ◌-◌, ◌*◌, ◌≤◌, ◌<◌, length, get_or}
+use Rattle.std.specs.Prelude.{◌≡◌, true, List, ◌≢◌, ℕ, ◌+◌, ◌*◌, ◌≤◌, ◌<◌, length, get_or}
 use Rattle.bits.specs.Bit.{bit}
 use Rattle.rules.specs.Machine.{Machine, prio_of, task_places, runnable}
 use Rattle.rules.specs.Outcome.{entry_width}
