@@ -11,7 +11,7 @@ use lib.Pow.{pow_mono, pow_pos}
 use lib.ListN.{length, get_or, set, replicate, length-replicate, get_or-replicate, length-set}
 use lib.Seq.{get_or-set_same, get_or-set_other}
 use borrow.Author.Tests.{eq-eqb, eqb-true, eqb-false, leb-true, not-false}
-use Rattle.bits.specs.Bit.{first, tally}
+use Rattle.bits.specs.Bit.{tally}
 use Rattle.cpupri.specs.Found.{mask_fits}
 use Rattle.rules.specs.Lists.{occ, In, Falling}
 use Rattle.rules.specs.Machine.{Machine, Task, Column, task_of, free_task, prio_of, row, flag, allowed, allows, lowest_allowed, stranded, fresh}

@@ -2,7 +2,7 @@
 -- Assumes nothing.
 use mathlib.Core.Path.{◌≡◌, refl, sym, ◌∙◌}
 use mathlib.Core.Bool.{Bool, true, false, cond, false≢true}
-use mathlib.Core.Logic.{◌⊎◌, inl, inr, ⊎_elim}
+use mathlib.Core.Logic.{inl, inr, ⊎_elim}
 use mathlib.Core.List.{List, [], ◌∷◌}
 use mathlib.Core.Option.{Option, none, some}
 use Prim.Native.Nat.{ℕ, zero, suc, ◌≤◌, ◌<◌}
@@ -25,6 +25,7 @@ Rising low [] = Unit {0}
 Rising low (c ∷ cs) = (low ≤ c.number) × Rising c.number cs
 
 above : (low : ℕ) (cs : List Check) → Rising low cs → (j : ℕ) → Applies j cs → low ≤ j
+above low [] up j a = elim a [ ]
 above low (c ∷ cs) up j (inl a) = let at : low ≤ c.number = up.0 in omega (arith, a.1)
 above low (c ∷ cs) up j (inr a) = let at : low ≤ c.number = up.0 in omega (arith, above c.number cs up.1 j a)
 
@@ -57,6 +58,7 @@ first_failing_lem low (c ∷ cs) up k f = go c.fails refl f.applies (first_faili
 -- none fails exactly if no number applies
 none_applies : (low : ℕ) (cs : List Check) → 0 < low → Rising low cs → first_failing cs ≡ 0 → (j : ℕ) → Applies j cs → ⊥
 unfolding first_failing
+none_applies low [] p up h j a = elim a [ ]
 none_applies low (c ∷ cs) p up h j a =
     let least : low ≤ c.number = up.0 in
     let big : 0 < c.number = omega arith in

@@ -10,7 +10,7 @@ use native.Mathlib.Omega.{arith}
 use lib.Dec.{ltb}
 use lib.ListN.{length}
 use borrow.Author.Tests.{lt-ltb}
-use Rattle.rules.specs.Lists.{occ, In, Falling, below, insert_before, delete}
+use Rattle.rules.specs.Lists.{occ, In, Falling, insert_before, delete}
 use Rattle.rules.specs.Machine.{Machine, task_of, prio_of, row, idle_level, head, running, row_level, level, level_of, allowed, task_places}
 use Rattle.rules.specs.Machine.{queued, enqueue, dequeue}
 use Rattle.rules.specs.WellFormed.{WellFormed}

@@ -15,7 +15,7 @@ use Rattle.bits.specs.Bit.{bit}
 use Rattle.rules.specs.Lists.{occ, In, Falling, insert_before, delete}
 use Rattle.rules.specs.Machine.{Machine, Task, Column, task_of, prio_of, row, flag, is_online, idle_level, head, running, row_level, level, level_of, invalid, allowed, allows, runnable, store, write, with_row, with_flag, queued, entry_key, enqueue_at, dequeue}
 use Rattle.rules.specs.WellFormed.{WellFormed}
-use Rattle.rules.specs.Migration.{waiting, movable, next}
+use Rattle.rules.specs.Migration.{waiting, next}
 use Rattle.rules.specs.Plan.{Plan, left, wrote, carried, When, Doable}
 use Rattle.laws.specs.Limited.{holds, Limited, second, fallen_cpu, new_task}
 use Rattle.laws.proofs.Bools.{both}

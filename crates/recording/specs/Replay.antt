@@ -1,6 +1,6 @@
 -- Replaying a recording: what its events do to a fresh machine, the totals, and the time that each CPU had a real-time task.
 -- Assumes nothing.
-use Rattle.std.specs.Prelude.{Bool, cond, not, List, [], ◌∷◌, ◌++◌, ℕ, zero, ◌+◌, ◌-◌, ◌*◌, ◌%◌, ◌^◌, eqb, take, drop, replicate}
+use Rattle.std.specs.Prelude.{Bool, cond, not, List, [], ◌∷◌, ◌++◌, ℕ, ◌+◌, ◌-◌, ◌*◌, ◌%◌, ◌^◌, eqb, take, drop, replicate}
 use Rattle.bits.specs.Bit.{digit}
 use Rattle.levels.specs.declared.record.Record.{Record}
 use Rattle.rules.specs.Machine.{task_places, cpu_places}

@@ -1,7 +1,6 @@
 // A recording of a night: its records, and what a replay carries from one to the next. What they mean is in specs/.
 #![tactic(auto)]
 
-
 // Records of a recording, at most, the first one included.
 pub const RECORDS: usize = 65536;
 
