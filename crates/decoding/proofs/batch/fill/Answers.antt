@@ -1,0 +1,33 @@
+-- `decoding::batch::fill` meets its contract.
+-- Assumes nothing.
+use borrow.Author.Rules.{rules}
+use native.Mathlib.Omega.{arith}
+use mathlib.Core.Path.{refl, sym, ◌∙◌}
+use Prim.Native.Nat.{◌-◌}
+use Rattle.decoding.specs.Filled.{batch_places}
+use Rattle.decoding.proofs.Filling.{Filling, filling_none, filling_more, filled_ends, filled_full}
+use Rattle.decoding.proofs.batch.fill.Goals as goal
+
+pub loop-count-init : goal.loop-count-init
+loop-count-init c = let x = c.args in filling_none x.room x.from x.bytes.now _ refl
+
+pub returns-in-Ends : goal.returns-in-Ends
+returns-in-Ends c =
+    let x = c.args in
+    let l = c.loop-count in
+    filled_ends x.room x.from x.bytes.now l.events l.count l.place _ l.invariant (sym c.item_at-item.ensures ∙ c.item-1.given.1)
+
+pub loop-count-smaller : goal.loop-count-smaller
+loop-count-smaller c = omega (arith, c.loop-count-test)
+
+pub loop-count-preserved : goal.loop-count-preserved
+loop-count-preserved c =
+    let x = c.args in
+    let l = c.loop-count in
+    filling_more x.room x.from x.bytes.now l.events l.count l.place _ _ l.invariant (omega (arith, c.loop-count-test)) (sym c.item_at-item.ensures ∙ c.item-in-Holds-1.given.1)
+
+pub returns : goal.returns
+returns c =
+    let x = c.args in
+    let l = c.loop-count in
+    filled_full x.room x.from x.bytes.now l.events l.count l.place _ l.invariant (omega (arith, c.loop-count-test))

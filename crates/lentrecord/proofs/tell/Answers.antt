@@ -1,0 +1,15 @@
+-- `lentrecord::tell` meets its contract: in each arm the answer is that of the variant.
+-- Assumes nothing.
+use borrow.Author.Rules.{rules}
+use mathlib.Core.Path.{sym, ap}
+use Rattle.cpupri.specs.Found.{answer_of}
+use Rattle.lentrecord.proofs.tell.Goals as goal
+
+pub returns-in-Cpus : goal.returns-in-Cpus
+returns-in-Cpus c = sym (ap answer_of c.found-1.given.1)
+
+pub returns-in-Nothing : goal.returns-in-Nothing
+returns-in-Nothing c = sym (ap answer_of c.found-in-Nothing-1.given.1)
+
+pub returns-in-Refused : goal.returns-in-Refused
+returns-in-Refused c = sym (ap answer_of c.found-in-Refused-1.given.1)

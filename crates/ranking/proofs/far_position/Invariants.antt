@@ -1,0 +1,13 @@
+-- `ranking::far_position` meets its contract. The loop's invariant: the task does not stand earlier. Assumes nothing.
+use Prim.Native.Nat.{◌-◌, ◌≤◌, ◌<◌}
+use native.Mathlib.Omega.{arith}
+use lib.ListN.{length, take}
+use Rattle.rules.specs.Lists.{place}
+use Rattle.ranking.proofs.Held.{row_size, place_below, stands_here, stands_later}
+use Rattle.ranking.proofs.far_position.Given as goal
+
+abbrev pub invariant-loop-at : goal.invariant-loop-at
+invariant-loop-at l = l.at ≤ place l.task (take l.count l.row)
+
+abbrev pub decreases-loop-at : goal.decreases-loop-at
+decreases-loop-at l = place l.task (take l.count l.row) - l.at

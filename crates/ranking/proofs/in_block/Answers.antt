@@ -1,0 +1,27 @@
+-- `ranking::in_block` meets its contract. The loop's invariant: what is found is whether the task stands in the first i places of the block. Assumes nothing.
+use mathlib.Core.Path.{◌≡◌, refl, ap, ◌∙◌}
+use mathlib.Core.Bool.{Bool, ◌||◌}
+use Prim.Native.Nat.{ℕ, ◌+◌, ◌-◌, ◌≤◌}
+use native.Mathlib.Omega.{arith}
+use lib.Dec.{eqb}
+use lib.ListN.{get_or, take, drop}
+use Rattle.rules.specs.Lists.{any}
+use Rattle.ranking.specs.Row.{block}
+use Rattle.ranking.proofs.Places.{any_next}
+use Rattle.ranking.proofs.in_block.Goals as goal
+
+pub loop-i-init : goal.loop-i-init
+unfolding any
+loop-i-init c = (omega arith, refl)
+
+pub loop-i-preserved : goal.loop-i-preserved
+loop-i-preserved c =
+    let a = c.args in
+    let l = c.loop-i in
+    let test : ℕ → Bool = λ u. eqb u a.task in
+    (omega arith, ap (λ (b : Bool). b || test (get_or a.row.now (a.from + l.i) 0)) l.invariant.1 ∙ any_next test a.row.now a.from l.i (omega arith))
+
+pub returns : goal.returns
+returns c =
+    let all : c.loop-i.i ≡ block = omega arith in
+    c.loop-i.invariant.1 ∙ ap (λ (n : ℕ). any (λ u. eqb u c.args.task) (take n (drop c.args.from c.args.row.now))) all

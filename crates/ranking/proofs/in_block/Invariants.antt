@@ -1,0 +1,17 @@
+-- `ranking::in_block` meets its contract. The loop's invariant: what is found is whether the task stands in the first i places of the block. Assumes nothing.
+use mathlib.Core.Path.{◌≡◌, refl, ap, ◌∙◌}
+use mathlib.Core.Bool.{Bool, ◌||◌}
+use Prim.Native.Nat.{ℕ, ◌+◌, ◌-◌, ◌≤◌}
+use native.Mathlib.Omega.{arith}
+use lib.Dec.{eqb}
+use lib.ListN.{get_or, take, drop}
+use Rattle.rules.specs.Lists.{any}
+use Rattle.ranking.specs.Row.{block}
+use Rattle.ranking.proofs.Places.{any_next}
+use Rattle.ranking.proofs.in_block.Given as goal
+
+abbrev pub invariant-loop-i : goal.invariant-loop-i
+invariant-loop-i l = (l.i ≤ block) × (l.found ≡ any (λ u. eqb u l.task) (take l.i (drop l.from l.row)))
+
+abbrev pub decreases-loop-i : goal.decreases-loop-i
+decreases-loop-i l = block - l.i

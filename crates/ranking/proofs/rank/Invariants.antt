@@ -1,0 +1,12 @@
+-- `ranking::rank` meets its contract. The loop's invariant: the tasks from `at` on are below the key. Assumes nothing.
+use native.Mathlib.Omega.{arith}
+use borrow.Author.Tests.{not-true, not-false}
+use Rattle.ranking.specs.Row.{Ordered, LowerFrom}
+use Rattle.ranking.proofs.Below.{ordered_first, not_ended, rank_is, lower_end, lower_both}
+use Rattle.ranking.proofs.rank.Given as goal
+
+abbrev pub invariant-loop-at : goal.invariant-loop-at
+invariant-loop-at l = LowerFrom l.prio l.row l.count l.key l.at
+
+abbrev pub decreases-loop-at : goal.decreases-loop-at
+decreases-loop-at l = l.at
