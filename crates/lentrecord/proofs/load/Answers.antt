@@ -11,8 +11,8 @@ module _ (c : Start) where
   from : let a = c.args in Sized (length a.masks.now) (length a.counts.now) (length a.words.now) (length a.levels.now)
   from = let a = c.args in sized (length a.masks.now) (length a.counts.now) (length a.words.now) (length a.levels.now) c.requires.levels_value
 
-  to : let a = c.args in Sized (length a.to-masks.now) (length a.to-counts.now) (length a.to-words.now) (length a.to-levels.now)
-  to = let a = c.args in sized (length a.to-masks.now) (length a.to-counts.now) (length a.to-words.now) (length a.to-levels.now) c.requires.to_levels_value
+  to : let a = c.args in Sized (length a.to_masks.now) (length a.to_counts.now) (length a.to_words.now) (length a.to_levels.now)
+  to = let a = c.args in sized (length a.to_masks.now) (length a.to_counts.now) (length a.to_words.now) (length a.to_levels.now) c.requires.to_levels_value
 
 pub copy_u64-requires : goal.copy_u64-requires
 copy_u64-requires c = let s = (goal.at.copy_u64-requires c).Start in (to s).masks ∙ sym (from s).masks

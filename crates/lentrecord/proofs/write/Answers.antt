@@ -13,25 +13,25 @@ lent c = let a = c.args in sized (length a.masks.now) (length a.counts.now) (len
 pub copy_u64-requires : goal.copy_u64-requires
 copy_u64-requires c =
     let s = (goal.at.copy_u64-requires c).Start in
-    let e : 102 ≡ length s.args.t1.masks = search rules in
+    let e : 102 ≡ length s.args.record.masks = search rules in
     (lent s).masks ∙ e
 
 pub copy_u8-requires : goal.copy_u8-requires
 copy_u8-requires c =
     let s = (goal.at.copy_u8-requires c).Start in
-    let e : 102 ≡ length s.args.t1.counts = search rules in
+    let e : 102 ≡ length s.args.record.counts = search rules in
     (lent s).counts ∙ e
 
 pub copy_u64-requires-2 : goal.copy_u64-requires-2
 copy_u64-requires-2 c =
     let s = (goal.at.copy_u64-requires-2 c).Start in
-    let e : 2 ≡ length s.args.t1.words = search rules in
+    let e : 2 ≡ length s.args.record.words = search rules in
     (lent s).words ∙ e
 
 pub copy_u8-requires-2 : goal.copy_u8-requires-2
 copy_u8-requires-2 c =
     let s = (goal.at.copy_u8-requires-2 c).Start in
-    let e : 64 ≡ length s.args.t1.levels = search rules in
+    let e : 64 ≡ length s.args.record.levels = search rules in
     (lent s).levels ∙ e
 
 pub returns : goal.returns

@@ -27,7 +27,7 @@ first_block-at-requires c = record {
     }
 
 pub loop-at-init : goal.loop-at-init
-loop-at-init c = let k = known.loop-holds c in k.First-Block.ensures
+loop-at-init c = c.first_block-at.ensures
 
 pub loop-at-smaller : goal.loop-at-smaller
 loop-at-smaller c = omega (arith, later c)
@@ -39,3 +39,12 @@ pub returns : goal.returns
 returns c =
     let a = c.args in
     stands_here a.count a.row.now c.requires.holds_row a.task c.requires.fact c.loop-at.at c.loop-at.invariant c.loop-at-test.false
+
+pub offset_bounds-row-at : goal.offset_bounds-row-at
+offset_bounds-row-at c = omega (arith, within (goal.at.offset_bounds-row-at c).Start, c.loop-at.invariant)
+
+pub bounds-row-at : goal.bounds-row-at
+bounds-row-at c = omega (arith, within (goal.at.bounds-row-at c).Start, c.loop-at.invariant)
+
+pub overflow_add-at : goal.overflow_add-at
+overflow_add-at c = omega (arith, within (goal.at.overflow_add-at c).Start, c.loop-at.invariant)

@@ -20,19 +20,17 @@ bound-at-requires c = ordered_first (ordered (goal.at.bound-at-requires c).Start
 
 pub loop-at-init : goal.loop-at-init
 loop-at-init c =
-    let k = known.loop-holds c in
-    lower_both k.bound.ensures (not_ended (ordered k.start) k.ends_at.ensures k.if1.left _ (omega arith) (omega arith))
+    lower_both c.bound-at.ensures (not_ended (ordered (goal.at.loop-at-init c).Start) c.ends_at.ensures c.if-ends_at.false _ (omega arith) (omega arith))
 
 pub ends_at-requires-in-loop-at : goal.ends_at-requires-in-loop-at
 ends_at-requires-in-loop-at c = ordered_first (ordered (goal.at.ends_at-requires-in-loop-at c).Start) _ c.loop-at.invariant.most
 
 pub loop-at-smaller : goal.loop-at-smaller
-loop-at-smaller c = let k = known.loop-less c in omega (arith, (k.ends-at2.ensures.no (not-true _ k.if2.taken)).0)
+loop-at-smaller c = omega (arith, (c.ends_at-in-loop-at.ensures.no c.loop-at-test.true).0)
 
 pub loop-at-preserved : goal.loop-at-preserved
 loop-at-preserved c =
-    let k = known.loop-again c in
-    not_ended (ordered k.start) k.ends-at2.ensures (not-true _ k.if2.taken) _ (omega arith) (omega (arith, k.loop.invariant.most))
+    not_ended (ordered (goal.at.loop-at-preserved c).Start) c.ends_at-in-loop-at.ensures c.loop-at-test.true _ (omega arith) (omega (arith, c.loop-at.invariant.most))
 
 pub returns : goal.returns
 returns c =
