@@ -14,7 +14,7 @@ use lib.Seq.{get_or-take}
 use borrow.Author.Tests.{eqb-false, leb-true, leb-false}
 use Rattle.rules.specs.Lists.{In, any, place}
 use Rattle.rules.specs.Machine.{task_places}
-use Rattle.rules.specs.Tables.{nothing, padded}
+use Rattle.rules.specs.Tables.{nothing}
 use Rattle.laws.proofs.Order.{place_lt, place_is}
 use Rattle.laws.proofs.Tables.{length_padded}
 use Rattle.ranking.specs.Row.{HoldsRow, block}

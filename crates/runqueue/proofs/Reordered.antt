@@ -9,11 +9,11 @@ use lib.Dec.{ltb}
 use lib.ListN.{length, get_or, set, take, drop, length-set, length-drop}
 use lib.Seq.{get_or-take, get_or-drop, length-take-le}
 use borrow.Author.Tests.{ltb-true, ltb-false}
-use Rattle.rules.specs.Lists.{In, place, insert_before, delete}
+use Rattle.rules.specs.Lists.{place, insert_before, delete}
 use Rattle.rules.specs.Machine.{task_places}
 use Rattle.rules.specs.Tables.{nothing, padded}
 use Rattle.laws.proofs.Lists.{in_get_or, in_delete, falling_at, length_delete}
-use Rattle.ranking.specs.Row.{HoldsRow, Ordered, ahead, prio_at}
+use Rattle.ranking.specs.Row.{HoldsRow, Ordered, ahead}
 use Rattle.runqueue.specs.Row.{Reorderable, Closed, Opened}
 use Rattle.ranking.proofs.Places.{delete_before, delete_after, ahead_is, ahead_before, ahead_here, ahead_le}
 use Rattle.ranking.proofs.Held.{row_size, in_queue, behind, place_below}

@@ -7,9 +7,9 @@ use Rattle.lentrecord.proofs.read.Goals as goal
 pub load-requires : goal.load-requires
 unfolding record_lengths_fit
 load-requires c = record {
-      levels_value = c.requires;
-      to_levels_value = refl;
-    }
+  levels_value = c.requires;
+  to_levels_value = refl;
+}
 
 pub returns : goal.returns
 returns c = c.load.ensures

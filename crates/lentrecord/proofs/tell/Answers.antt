@@ -1,6 +1,5 @@
 -- `lentrecord::tell` meets its contract: in each arm the answer is that of the variant.
 -- Assumes nothing.
-use borrow.Author.Rules.{rules}
 use mathlib.Core.Path.{sym, ap}
 use Rattle.cpupri.specs.Found.{answer_of}
 use Rattle.lentrecord.proofs.tell.Goals as goal

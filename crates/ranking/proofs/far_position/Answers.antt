@@ -1,5 +1,5 @@
 -- `ranking::far_position` meets its contract. The loop's invariant: the task does not stand earlier. Assumes nothing.
-use Prim.Native.Nat.{◌-◌, ◌≤◌, ◌<◌}
+use Prim.Native.Nat.{◌<◌}
 use native.Mathlib.Omega.{arith}
 use lib.ListN.{length, take}
 use Rattle.rules.specs.Lists.{place}
@@ -22,9 +22,9 @@ later c =
 
 pub first_block-at-requires : goal.first_block-at-requires
 first_block-at-requires c = record {
-      holds_row = c.requires.holds_row;
-      fact = c.requires.fact;
-    }
+  holds_row = c.requires.holds_row;
+  fact = c.requires.fact;
+}
 
 pub loop-at-init : goal.loop-at-init
 loop-at-init c = c.first_block-at.ensures

@@ -1,9 +1,7 @@
 -- `ranking::far_position` meets its contract. The loop's invariant: the task does not stand earlier. Assumes nothing.
-use Prim.Native.Nat.{◌-◌, ◌≤◌, ◌<◌}
-use native.Mathlib.Omega.{arith}
-use lib.ListN.{length, take}
+use Prim.Native.Nat.{◌-◌, ◌≤◌}
+use lib.ListN.{take}
 use Rattle.rules.specs.Lists.{place}
-use Rattle.ranking.proofs.Held.{row_size, place_below, stands_here, stands_later}
 use Rattle.ranking.proofs.far_position.Given as goal
 
 abbrev pub invariant-loop-at : goal.invariant-loop-at

@@ -1,11 +1,7 @@
 -- `ranking::first_block` meets its contract. The loop's invariant: the task does not stand before the block. Assumes nothing.
-use mathlib.Core.Path.{◌≡◌, sym, ◌∙◌}
-use Prim.Native.Nat.{◌+◌, ◌-◌, ◌*◌, ◌≤◌, ◌<◌}
-use native.Mathlib.Omega.{arith}
-use borrow.Author.Tests.{not-true}
-use lib.ListN.{length, take}
+use Prim.Native.Nat.{◌-◌, ◌*◌, ◌≤◌}
+use lib.ListN.{take}
 use Rattle.rules.specs.Lists.{place}
-use Rattle.ranking.proofs.Held.{row_size, place_below, stands_behind}
 use Rattle.ranking.proofs.first_block.Given as goal
 
 abbrev pub invariant-loop-block : goal.invariant-loop-block

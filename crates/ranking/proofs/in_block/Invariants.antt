@@ -1,13 +1,10 @@
 -- `ranking::in_block` meets its contract. The loop's invariant: what is found is whether the task stands in the first i places of the block. Assumes nothing.
-use mathlib.Core.Path.{◌≡◌, refl, ap, ◌∙◌}
-use mathlib.Core.Bool.{Bool, ◌||◌}
-use Prim.Native.Nat.{ℕ, ◌+◌, ◌-◌, ◌≤◌}
-use native.Mathlib.Omega.{arith}
+use mathlib.Core.Path.{◌≡◌}
+use Prim.Native.Nat.{◌-◌, ◌≤◌}
 use lib.Dec.{eqb}
-use lib.ListN.{get_or, take, drop}
+use lib.ListN.{take, drop}
 use Rattle.rules.specs.Lists.{any}
 use Rattle.ranking.specs.Row.{block}
-use Rattle.ranking.proofs.Places.{any_next}
 use Rattle.ranking.proofs.in_block.Given as goal
 
 abbrev pub invariant-loop-i : goal.invariant-loop-i

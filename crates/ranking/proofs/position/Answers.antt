@@ -57,9 +57,9 @@ returns-then-row-task-6 c = here (goal.at.returns-then-row-task-6 c).Start 5 (pa
 
 pub far_position-requires : goal.far_position-requires
 far_position-requires c = record {
-      holds_row = c.requires.holds_row;
-      fact = c.requires.fact;
-    }
+  holds_row = c.requires.holds_row;
+  fact = c.requires.fact;
+}
 
 pub returns : goal.returns
 returns c = c.far_position.ensures

@@ -1,7 +1,6 @@
 -- `ranking::rank` meets its contract. The loop's invariant: the tasks from `at` on are below the key. Assumes nothing.
 use native.Mathlib.Omega.{arith}
-use borrow.Author.Tests.{not-true, not-false}
-use Rattle.ranking.specs.Row.{Ordered, LowerFrom}
+use Rattle.ranking.specs.Row.{Ordered}
 use Rattle.ranking.proofs.Below.{ordered_first, not_ended, rank_is, lower_end, lower_both}
 use Rattle.ranking.proofs.rank.Goals.{Start}
 use Rattle.ranking.proofs.rank.Goals as goal

@@ -1,8 +1,5 @@
 -- `ranking::rank` meets its contract. The loop's invariant: the tasks from `at` on are below the key. Assumes nothing.
-use native.Mathlib.Omega.{arith}
-use borrow.Author.Tests.{not-true, not-false}
-use Rattle.ranking.specs.Row.{Ordered, LowerFrom}
-use Rattle.ranking.proofs.Below.{ordered_first, not_ended, rank_is, lower_end, lower_both}
+use Rattle.ranking.specs.Row.{LowerFrom}
 use Rattle.ranking.proofs.rank.Given as goal
 
 abbrev pub invariant-loop-at : goal.invariant-loop-at

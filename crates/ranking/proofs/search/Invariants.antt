@@ -1,8 +1,6 @@
 -- `ranking::search` meets its contract. The loop's invariant: those behind the part that is left are below the key. Assumes nothing.
 use Prim.Native.Nat.{◌+◌}
-use native.Mathlib.Omega.{arith}
 use Rattle.ranking.specs.Row.{LowerFrom}
-use Rattle.ranking.proofs.Below.{lower_end, lower_later}
 use Rattle.ranking.proofs.search.Given as goal
 
 abbrev pub invariant-loop-size : goal.invariant-loop-size
