@@ -3,7 +3,7 @@
 use Rattle.std.specs.Prelude.{Bool, ◌&&◌, ℕ, ◌*◌, eqb}
 use Rattle.cpupri.specs.Found.{size_fits}
 use Rattle.rules.specs.Machine.{task_places}
-use Rattle.rules.specs.Tables.{Tables, log_places}
+use Rattle.rules.specs.Tables.{log_places}
 use Rattle.rules.specs.WellFormed.{slice_fits}
 pub use Rattle.rules.specs.Tables.{lent}
 

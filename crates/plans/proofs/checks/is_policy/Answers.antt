@@ -1,0 +1,2 @@
+-- `plans::checks::is_policy` meets its contract. It has a file so that what is wrong with an edit of it is said here and not at a caller.
+-- Assumes nothing.

@@ -1,0 +1,2 @@
+-- `waiting::scan::priority_at` meets its contract.
+-- Assumes nothing.
