@@ -1,9 +1,8 @@
 -- `parts::set_flag` meets its contract.
 -- Assumes nothing.
 use mathlib.Core.Path.{refl}
-use native.Mathlib.Omega.{arith}
 use Rattle.rules.specs.Machine.{with_flag}
-use Rattle.parts.proofs.Flags.{flagged, whole, small, following_if, levels_flagged}
+use Rattle.parts.proofs.Flags.{whole, small, following_if, levels_flagged}
 use Rattle.parts.proofs.set_flag.Goals as goal
 
 pub test_bit-requires : goal.test_bit-requires
