@@ -1,12 +1,9 @@
 -- `blank::fill::fill_u64` meets its contract. The loop's invariant: the places passed hold the value, the others what they held.
 -- Assumes nothing.
-use mathlib.Core.Path.{◌≡◌, refl, ap, ◌∙◌}
-use Prim.Native.Nat.{ℕ, ◌-◌, ◌≤◌}
-use mathlib.Core.List.{List, ◌++◌}
-use native.Mathlib.Omega.{arith}
-use lib.ListN.{length, set, drop, replicate, length-set}
-use borrow.Author.Fill.{fill_more}
-use Rattle.blank.proofs.Filling.{fill_all}
+use mathlib.Core.Path.{◌≡◌}
+use Prim.Native.Nat.{◌-◌, ◌≤◌}
+use mathlib.Core.List.{◌++◌}
+use lib.ListN.{length, drop, replicate}
 use Rattle.blank.proofs.fill.fill_u64.Given as goal
 
 abbrev pub invariant-loop-i : goal.invariant-loop-i

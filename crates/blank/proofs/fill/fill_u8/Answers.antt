@@ -1,10 +1,10 @@
 -- `blank::fill::fill_u8` meets its contract. The loop's invariant: the places passed hold the value, the others what they held.
 -- Assumes nothing.
 use mathlib.Core.Path.{◌≡◌, refl, ap, ◌∙◌}
-use Prim.Native.Nat.{ℕ, ◌-◌, ◌≤◌}
-use mathlib.Core.List.{List, ◌++◌}
+use Prim.Native.Nat.{ℕ}
+use mathlib.Core.List.{List}
 use native.Mathlib.Omega.{arith}
-use lib.ListN.{length, set, drop, replicate, length-set}
+use lib.ListN.{length, set, length-set}
 use borrow.Author.Fill.{fill_more}
 use Rattle.blank.proofs.Filling.{fill_all}
 use Rattle.blank.proofs.fill.fill_u8.Goals as goal
