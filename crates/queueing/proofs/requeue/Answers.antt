@@ -26,10 +26,8 @@ use Rattle.hinting.proofs.Lent.{rows_long, first_is, level_is, new_waits, new_st
 use Rattle.queueing.specs.Moved.{Moving, Running, Moved}
 use Rattle.queueing.proofs.First.{requeued_level}
 use Rattle.queueing.proofs.Going.{own, reading, twice, level_kept, state_is, state_after, reading_now, in_rows, few_since, moved, left_out, reorderable, reordered, cpu_home, cpu_kept}
-use Rattle.queueing.proofs.requeue.Statement.{statement}
-use Rattle.queueing.proofs.requeue.Tie as tie
-use Rattle.queueing.proofs.requeue.Proof.Paths as at
-mod Paths
+use Rattle.queueing.proofs.requeue.Goals.{After-reorder}
+use Rattle.queueing.proofs.requeue.Goals as goal
 
 -- the task that runs is the first of its row
 first_of_lem : (r : List ℕ) (t : ℕ) → head r ≡ some t → (ts : List ℕ) × (r ≡ t ∷ ts)
@@ -62,47 +60,41 @@ module _ {m : Machine} {t c : ℕ} {τ : Task} {ss qs cs flat ns fs flat' : List
       same : level (carried (reorder false t c τ) m) c ≡ level m c
       same = requeued_level t τ m c (in_rows k c here) s.prio first.0 first.1 (subst (Falling (prio_of m)) first.1 ((well_formed_order m k.formed).falling c))
 
--- ---- the needs
-
-reorder-requires : tie.Need-reorder-requires
-reorder-requires c κs = reorderable (at.reorder-requires c).requires.1.1.0
-
 -- the row of a CPU has a place
-module _ (c : tie.After-reorder) where
-  room : let k = at.after-reorder c in (k.args.home * 512 < length k.reorder-last.rows) × (k.args.home < 64)
+module _ (c : After-reorder) where
+  room : let k = c in (k.args.home * 512 < length k.reorder.new.rows) × (k.args.home < 64)
   room =
-      let k = at.after-reorder c in
-      let l = k.pre.1.1.0 in
+      let k = c in
+      let l = k.requires.1.1.0 in
       let h = l.ready.leaves.0 in
-      let long = rows_long (reading_then l (reordered l k.reorder.ensures.0 k.reorder.ensures.1)) in
+      let long = rows_long (reading_then l (reordered l k.reorder.ensures.rows_are k.reorder.ensures.counts_are)) in
       (omega (arith, long, cpus_kept (own l), h), omega (arith, h, l.formed.shape.cpus))
 
-mul-if1 : tie.Need-overflow-mul-if1
-mul-if1 c = let r = room (at.overflow-mul-if1 c).after-reorder in omega (arith, r.1)
+-- ---- the needs
+pub reorder-requires : goal.reorder-requires
+reorder-requires c = let all = reorderable c.requires.1.1.0 in record {
+      holds_rows = all.0;
+      cpu_in_bounds = all.1.0;
+      prio_len = all.1.1.0;
+      task_bound = all.1.1.1.0;
+      reorderable = all.1.1.1.1;
+    }
 
-mul-if1-2 : tie.Need-overflow-mul-if1-2
-mul-if1-2 c = let r = room (at.overflow-mul-if1-2 c).after-reorder in omega (arith, r.1)
+pub returns-then-rows-home : goal.returns-then-rows-home
+returns-then-rows-home c =
+    λ m τ l s.
+    let e = reordered l c.reorder.ensures.rows_are c.reorder.ensures.counts_are in
+    requeued l e s
+    (new_stays (reading_then l e) (state_after l) c.args.task l.ready.task c.args.home true (state_is l ∙ s.state)
+    (ap (λ (x : ℕ). get_or c.reorder.new.rows (x * task_places) 0) (cpu_home l) ∙ c.if-rows-home.true) (eq-eqb c.args.home _ (sym (cpu_home l))))
 
-slice-read-if1 : tie.Need-slice-read-if1
-slice-read-if1 c = let r = room (at.slice-read-if1 c).after-reorder in omega (arith, r.0)
-
-returns : tie.Need-returns
+pub returns : goal.returns
 returns c =
     λ m τ l s.
-    let k = at.returns c in
-    let e = reordered l k.reorder.ensures.0 k.reorder.ensures.1 in
+    let e = reordered l c.reorder.ensures.rows_are c.reorder.ensures.counts_are in
     requeued l e s
-    (new_stays (reading_then l e) (state_after l) k.args.task l.ready.task k.args.home true (state_is l ∙ s.state)
-    (ap (λ (x : ℕ). get_or k.reorder-last.rows (x * task_places) 0) (cpu_home l) ∙ k.if1.taken) (eq-eqb k.args.home _ (sym (cpu_home l))))
+    (new_waits (reading_then l e) (state_after l) c.args.task l.ready.task c.args.home true (state_is l ∙ s.state)
+    (λ q. c.if-rows-home.false (ap (λ (x : ℕ). get_or c.reorder.new.rows (x * task_places) 0) (sym (cpu_home l)) ∙ q)))
 
-returns-2 : tie.Need-returns-2
-returns-2 c =
-    λ m τ l s.
-    let k = at.returns-2 c in
-    let e = reordered l k.reorder.ensures.0 k.reorder.ensures.1 in
-    requeued l e s
-    (new_waits (reading_then l e) (state_after l) k.args.task l.ready.task k.args.home true (state_is l ∙ s.state)
-    (λ q. k.if1.left (ap (λ (x : ℕ). get_or k.reorder-last.rows (x * task_places) 0) (sym (cpu_home l)) ∙ q)))
-
-pub requeue_spec : {M : Type 1} → statement M
-requeue_spec = at.close reorder-requires mul-if1 mul-if1-2 slice-read-if1 returns returns-2
+pub bounds-rows-home : goal.bounds-rows-home
+bounds-rows-home c = let r = room (goal.at.bounds-rows-home c).After-reorder in omega (arith, r.0)

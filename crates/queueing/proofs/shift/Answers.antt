@@ -1,0 +1,74 @@
+-- `queueing::shift` meets its contract.
+-- Assumes nothing.
+use mathlib.Core.Path.{sym, ap, ◌∙◌, subst}
+use Rattle.cpupri.specs.Record.{Whole}
+use Rattle.rules.specs.Plan.{shift, carried}
+use Rattle.parts.proofs.Optional.{still_whole_if}
+use Rattle.carrying.proofs.Placing.{leaves, enters, whole, follows_origin, follows_target}
+use Rattle.hinting.specs.Past.{Standing, candidates_since}
+use Rattle.hinting.specs.declared.past.Past.{Past}
+use Rattle.queueing.proofs.Going.{own, cpus_long, reading, state_after, stands, reading_after, moved}
+use Rattle.queueing.proofs.shift.Goals as goal
+
+pub standing-past-requires : goal.standing-past-requires
+standing-past-requires c = let l = c.requires.1.1 in record {
+      task_lt_task_places = l.ready.task;
+      reading = (_, reading l);
+    }
+
+pub leave_if-requires : goal.leave_if-requires
+leave_if-requires c = let l = c.requires.1.1 in (_, leaves (own l))
+
+pub enter_if-requires : goal.enter_if-requires
+enter_if-requires c =
+    let l = c.requires.1.1 in record {
+      entering_if = (_, enters (own l) (c.leave_if.ensures _ (leaves (own l))) l.prio);
+      cpus_len = cpus_long l;
+    }
+
+pub follow_if-requires : goal.follow_if-requires
+follow_if-requires c =
+    let l = c.requires.1.1 in
+    let o = c.leave_if.ensures _ (leaves (own l)) in
+    let e = c.enter_if.ensures.fact_1 _ (enters (own l) o l.prio) in record {
+      following_if = (_, follows_origin (own l) o l.prio e);
+      whole = whole (own l);
+    }
+
+pub follow_if-requires-2 : goal.follow_if-requires-2
+follow_if-requires-2 c =
+    let l = c.requires.1.1 in
+    let o = c.leave_if.ensures _ (leaves (own l)) in
+    let e = c.enter_if.ensures.fact_1 _ (enters (own l) o l.prio) in
+    let f = follows_origin (own l) o l.prio e in record {
+      following_if = (_, follows_target (own l) o l.prio e);
+      whole = subst Whole (sym (c.follow_if.ensures _ f)) (still_whole_if f (whole (own l)));
+    }
+
+pub since-requires : goal.since-requires
+since-requires c =
+    let l = c.requires.1.1 in
+    let o = c.leave_if.ensures _ (leaves (own l)) in
+    let e = c.enter_if.ensures.fact_1 _ (enters (own l) o l.prio) in
+    let r = c.follow_if.ensures _ (follows_origin (own l) o l.prio e) in
+    let q = c.follow_if-2.ensures _ (follows_target (own l) o l.prio e) in (
+      _,
+      (
+        reading_after l o e c.enter_if.ensures.fact_2 r q,
+        state_after l,
+        subst (Standing _) (sym (c.standing-past.ensures _ (reading l))) (stands l),
+      ),
+    )
+
+pub returns : goal.returns
+returns c =
+    λ m τ l.
+    let x = c.args in
+    let o = c.leave_if.ensures _ (leaves (own l)) in
+    let e = c.enter_if.ensures.fact_1 _ (enters (own l) o l.prio) in
+    let r = c.follow_if.ensures _ (follows_origin (own l) o l.prio e) in
+    let q = c.follow_if-2.ensures _ (follows_target (own l) o l.prio e) in
+    let is = c.standing-past.ensures m (reading l) in
+    moved l o e c.enter_if.ensures.fact_2 r q
+    (c.since.ensures _ (reading_after l o e c.enter_if.ensures.fact_2 r q) (state_after l) (subst (Standing _) (sym is) (stands l))
+    ∙ ap (λ (s : Past). candidates_since s (carried (shift x.task x.origin τ x.target) m)) is)
