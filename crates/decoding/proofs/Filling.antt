@@ -12,7 +12,7 @@ use Rattle.recording.specs.declared.Event.{Event}
 use Rattle.recording.specs.declared.Ending.{Ending}
 use Rattle.recording.specs.declared.Item.TheVariants.{Ends, Holds}
 use Rattle.recording.specs.Layout.{recorded}
-use Rattle.recording.specs.Reading.{Reading, ends, before, item_at, read_from}
+use Rattle.recording.specs.Reading.{Reading, before, item_at, read_from}
 use Rattle.decoding.specs.Filled.{follows, batch_places, Filled}
 use Rattle.decoding.proofs.Items.{read_ends, read_holds, holds_room}
 

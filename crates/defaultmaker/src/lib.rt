@@ -29,9 +29,7 @@ pub fn make_fresh_default(
     ensures fact_1 { let s = lent default_slice state.old policy.old prio.old cpu.old slice.old mask.old rows.old counts.old flags.old online.old log.old in
         let t = lent default_slice state.new policy.new prio.new cpu.new slice.new mask.new rows.new counts.new flags.new online.new log.new in
         kept result.answer result.«record» t ≡ made n «record» s }
-    ensures fact_2 { let s = lent default_slice state.old policy.old prio.old cpu.old slice.old mask.old rows.old counts.old flags.old online.old log.old in
-        let t = lent default_slice state.new policy.new prio.new cpu.new slice.new mask.new rows.new counts.new flags.new online.new log.new in
-        result.full ≡ handed_back result.answer default_slice }
+    ensures fact_2 { result.full ≡ handed_back result.answer default_slice }
 {
     make_fresh(
         n,

@@ -51,11 +51,9 @@ fn three_cpus<W: Write>(out: &mut W) -> io::Result<()> {
 // CPU c runs priority 99 - c.
 fn all_cpus<W: Write>(out: &mut W) -> io::Result<()> {
     let mut r = Record::fresh(64);
-    let mut cpu = 0;
-    while cpu < 64 {
+    for cpu in 0..64 {
         let priority = (99 - cpu) as u8;
         r = r.set_level(cpu, Level::of_priority(priority));
-        cpu += 1;
     }
     ask(out, 64, r, 101, 0xffff_ffff_ffff_ffff)?;
     ask(out, 64, r, 101, 0x0000_0000_ffff_fff0)?;

@@ -1,6 +1,6 @@
 -- What is read of a task before an event's own effect on a settled machine, and who can move after it.
 -- Assumes nothing.
-use Rattle.std.specs.Prelude.{◌≡◌, Bool, true, false, cond, ◌&&◌, List, [], ◌∷◌, ℕ, ◌<◌, eqb, ltb}
+use Rattle.std.specs.Prelude.{◌≡◌, Bool, cond, ◌&&◌, List, [], ◌∷◌, ℕ, ◌<◌, eqb, ltb}
 use Rattle.rules.specs.Machine.{Machine, task_of, row, running, level, levels, runnable, task_places, cpu_places}
 use Rattle.rules.specs.Plan.{Doable}
 use Rattle.rules.specs.Tables.{flat_of, nothing}

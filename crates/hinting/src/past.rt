@@ -99,7 +99,7 @@ pub fn since(past: Past, state: &[u8], cpu: &[u8], rows: &[u16], levels: &[u8; C
 }
 
 // The task if it waits; if it runs, and did not run there before, the task behind it, which it displaced; else none.
-fn new_task(task: u16, at: usize, ran: bool, state: &[u8], cpu: &[u8], rows: &[u16]) -> u16
+pub fn new_task(task: u16, at: usize, ran: bool, state: &[u8], cpu: &[u8], rows: &[u16]) -> u16
     requires task_lt_task_places { task < task_places }
     requires reading { (m : Machine) × (Reading m cpu.now rows.now (levels_of m) × (state.now ≡ m.state)) }
     ensures { (m : Machine) → Reading m cpu.now rows.now (levels_of m) → state.now ≡ m.state → result ≡ new_since task at ran m }

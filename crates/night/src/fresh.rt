@@ -48,13 +48,9 @@ pub fn play_fresh(
         let x = reading from bytes.now in
         run result.«record» v times.new result.course.moves result.course.refused result.course.last
         ≡ runs n x.events (begun (made n given s) (first_stamp x.events)) }
-    ensures fact_2 { let s = lent full state.old policy.old prio.old cpu.old slice.old mask.old rows.old counts.old flags.old online.old log.old in
-        let v = lent result.course.full state.new policy.new prio.new cpu.new slice.new mask.new rows.new counts.new flags.new online.new log.new in
-        let x = reading from bytes.now in
+    ensures fact_2 { let x = reading from bytes.now in
         result.ending ≡ x.ending }
-    ensures fact_3 { let s = lent full state.old policy.old prio.old cpu.old slice.old mask.old rows.old counts.old flags.old online.old log.old in
-        let v = lent result.course.full state.new policy.new prio.new cpu.new slice.new mask.new rows.new counts.new flags.new online.new log.new in
-        let x = reading from bytes.now in
+    ensures fact_3 { let x = reading from bytes.now in
         result.place ≡ x.place }
 {
     let made = make_fresh(

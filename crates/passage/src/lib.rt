@@ -53,17 +53,9 @@ pub fn pass(
         let x = reading from bytes.now in
         run q v times.new result.course.moves result.course.refused result.course.last
         ≡ runs n x.events (run r s times.old t.moves t.refused t.last) }
-    ensures fact_2 { let r = lent_record masks.old tallies.old words.old levels.old in
-        let q = lent_record masks.new tallies.new words.new levels.new in
-        let s = lent t.full state.old policy.old prio.old cpu.old slice.old mask.old rows.old counts.old flags.old online.old log.old in
-        let v = lent result.course.full state.new policy.new prio.new cpu.new slice.new mask.new rows.new counts.new flags.new online.new log.new in
-        let x = reading from bytes.now in
+    ensures fact_2 { let x = reading from bytes.now in
         result.ending ≡ x.ending }
-    ensures fact_3 { let r = lent_record masks.old tallies.old words.old levels.old in
-        let q = lent_record masks.new tallies.new words.new levels.new in
-        let s = lent t.full state.old policy.old prio.old cpu.old slice.old mask.old rows.old counts.old flags.old online.old log.old in
-        let v = lent result.course.full state.new policy.new prio.new cpu.new slice.new mask.new rows.new counts.new flags.new online.new log.new in
-        let x = reading from bytes.now in
+    ensures fact_3 { let x = reading from bytes.now in
         result.place ≡ x.place }
 {
     let mut place = from;

@@ -36,10 +36,8 @@ pub fn answered<W: Write>(out: &mut W, answer: u8, moves: u32) -> io::Result<()>
 // Numbers that belong together, as those of a log entry.
 pub fn tuple<W: Write>(out: &mut W, numbers: &[u16]) -> io::Result<()> {
     text(out, b" (")?;
-    let mut i = 0;
-    while i < numbers.len() {
+    for i in 0..numbers.len() {
         listed(out, i, at(numbers, i))?;
-        i += 1;
     }
     text(out, b")")
 }
@@ -59,22 +57,18 @@ fn wide(x: u16) -> u64 {
 // The tasks of each row.
 pub fn rows<W: Write>(out: &mut W, n: u8, rows: &[u16], counts: &[u16]) -> io::Result<()> {
     text(out, b"  rows")?;
-    let mut c = 0;
-    while c < n {
+    for c in 0..n {
         row(out, rows, c, at(counts, c as usize))?;
-        c += 1;
     }
     Ok(())
 }
 
 fn row<W: Write>(out: &mut W, rows: &[u16], c: u8, count: u64) -> io::Result<()> {
     text(out, b" [")?;
-    let mut i = 0;
-    while i < 512 {
+    for i in 0..512 {
         if (i as u64) < count {
             listed(out, i, at(rows, 512 * (c as usize) + i))?;
         }
-        i += 1;
     }
     text(out, b"]")
 }
@@ -89,20 +83,16 @@ fn listed<W: Write>(out: &mut W, i: usize, x: u64) -> io::Result<()> {
 
 pub fn counts<W: Write>(out: &mut W, n: u8, counts: &[u16]) -> io::Result<()> {
     text(out, b"; counts")?;
-    let mut c = 0;
-    while c < n {
+    for c in 0..n {
         number(out, b" ", at(counts, c as usize))?;
-        c += 1;
     }
     Ok(())
 }
 
 pub fn levels<W: Write>(out: &mut W, n: u8, levels: &[u8; 64]) -> io::Result<()> {
     text(out, b"; levels")?;
-    let mut c = 0;
-    while c < n {
+    for c in 0..n {
         number(out, b" ", level(levels, c as usize))?;
-        c += 1;
     }
     text(out, b"\n")
 }
@@ -129,15 +119,13 @@ fn wide8(x: u8) -> u64 {
 
 // Of each task that is not free: its CPU and its slice.
 pub fn tasks<W: Write>(out: &mut W, state: &[u8], cpu: &[u8], slice: &[u16]) -> io::Result<()> {
-    let mut t = 0;
-    while t < 512 {
+    for t in 0..512 {
         if byte(state, t) != 0 {
             number(out, b"  task ", t as u64)?;
             number(out, b": CPU ", byte(cpu, t))?;
             number(out, b", slice ", at(slice, t))?;
             text(out, b"\n")?;
         }
-        t += 1;
     }
     Ok(())
 }

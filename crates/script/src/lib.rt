@@ -167,12 +167,10 @@ fn told<W: Write>(out: &mut W, t: Tables, kind: u32) -> io::Result<()> {
 
 // The log's entries, as many as there were moves.
 fn entries<W: Write>(out: &mut W, moves: u32, log: [u16; LOG]) -> io::Result<()> {
-    let mut i = 0;
-    while i < ENTRIES {
+    for i in 0..ENTRIES {
         if (i as u32) < moves {
             print::tuple(out, &log[ENTRY * i..ENTRY * i + ENTRY])?;
         }
-        i += 1;
     }
     Ok(())
 }

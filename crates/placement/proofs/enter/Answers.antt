@@ -61,7 +61,15 @@ module _ {ps ks flat : List ℕ} {r : Record} {t c : ℕ} (m : Machine) (l : Ent
 
 -- ---- the needs
 pub enqueue-requires : goal.enqueue-requires
-enqueue-requires c = let p = c.requires.fact in can_enter p.0 p.1
+enqueue-requires c =
+    let all = can_enter c.requires.fact.0 c.requires.fact.1 in record {
+      holds_rows = all.0;
+      cpu_in_bounds = all.1.0;
+      task_lt_task_places = all.1.1.0;
+      prio_len = all.1.1.1.0;
+      task_bound = all.1.1.1.1.0;
+      joinable = all.1.1.1.1.1;
+    }
 
 pub first_level-level-requires : goal.first_level-level-requires
 first_level-level-requires c =

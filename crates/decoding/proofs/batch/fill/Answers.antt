@@ -1,11 +1,8 @@
 -- `decoding::batch::fill` meets its contract.
 -- Assumes nothing.
-use borrow.Author.Rules.{rules}
 use native.Mathlib.Omega.{arith}
 use mathlib.Core.Path.{refl, sym, ◌∙◌}
-use Prim.Native.Nat.{◌-◌}
-use Rattle.decoding.specs.Filled.{batch_places}
-use Rattle.decoding.proofs.Filling.{Filling, filling_none, filling_more, filled_ends, filled_full}
+use Rattle.decoding.proofs.Filling.{filling_none, filling_more, filled_ends, filled_full}
 use Rattle.decoding.proofs.batch.fill.Goals as goal
 
 pub loop-count-init : goal.loop-count-init
@@ -15,7 +12,7 @@ pub returns-in-Ends : goal.returns-in-Ends
 returns-in-Ends c =
     let x = c.args in
     let l = c.loop-count in
-    filled_ends x.room x.from x.bytes.now l.events l.count l.place _ l.invariant (sym c.item_at-item.ensures ∙ c.item-1.given.1)
+    filled_ends x.room x.from x.bytes.now l.events l.count l.place _ l.invariant (sym c.item_at-item.ensures ∙ c.in-Ends.is)
 
 pub loop-count-smaller : goal.loop-count-smaller
 loop-count-smaller c = omega (arith, c.loop-count-test)
@@ -24,7 +21,7 @@ pub loop-count-preserved : goal.loop-count-preserved
 loop-count-preserved c =
     let x = c.args in
     let l = c.loop-count in
-    filling_more x.room x.from x.bytes.now l.events l.count l.place _ _ l.invariant (omega (arith, c.loop-count-test)) (sym c.item_at-item.ensures ∙ c.item-in-Holds-1.given.1)
+    filling_more x.room x.from x.bytes.now l.events l.count l.place _ _ l.invariant (omega (arith, c.loop-count-test)) (sym c.item_at-item.ensures ∙ c.in-Holds.is)
 
 pub returns : goal.returns
 returns c =

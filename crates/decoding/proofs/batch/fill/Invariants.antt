@@ -1,11 +1,8 @@
 -- `decoding::batch::fill` meets its contract.
 -- Assumes nothing.
-use borrow.Author.Rules.{rules}
-use native.Mathlib.Omega.{arith}
-use mathlib.Core.Path.{refl, sym, ◌∙◌}
 use Prim.Native.Nat.{◌-◌}
 use Rattle.decoding.specs.Filled.{batch_places}
-use Rattle.decoding.proofs.Filling.{Filling, filling_none, filling_more, filled_ends, filled_full}
+use Rattle.decoding.proofs.Filling.{Filling}
 use Rattle.decoding.proofs.batch.fill.Given as goal
 
 abbrev pub invariant-loop-count : goal.invariant-loop-count

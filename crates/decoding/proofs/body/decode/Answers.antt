@@ -1,6 +1,5 @@
 -- `decoding::body::decode` meets its contract.
 -- Assumes nothing.
-use borrow.Author.Rules.{rules}
 use Rattle.decoding.proofs.Items.{decoded_is}
 use Rattle.decoding.proofs.body.decode.Goals as goal
 

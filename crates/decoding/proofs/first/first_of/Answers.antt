@@ -1,6 +1,5 @@
 -- `decoding::first::first_of` meets its contract.
 -- Assumes nothing.
-use borrow.Author.Rules.{rules}
 use mathlib.Core.Path.{sym, ◌∙◌}
 use Rattle.decoding.proofs.Firsts.{first_missing, first_plain, first_sliced, first_bad}
 use Rattle.decoding.proofs.first.first_of.Goals as goal

@@ -1,7 +1,5 @@
 -- `decoding::first::plain` meets its contract.
 -- Assumes nothing.
-use borrow.Author.Rules.{rules}
-use borrow.Author.Tests.{not-true, not-false}
 use mathlib.Core.Path.{sym}
 use Rattle.recording.specs.Reading.{unnamed}
 use Rattle.decoding.proofs.Firsts.{sized_missing, sized_bad, sized_good}

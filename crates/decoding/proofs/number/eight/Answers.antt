@@ -1,6 +1,5 @@
 -- `decoding::number::eight` meets its contract.
 -- Assumes nothing.
-use borrow.Author.Rules.{rules}
 use mathlib.Core.Path.{sym, ◌∙◌}
 use Prim.Native.Nat.{◌+◌, ◌*◌}
 use Rattle.decoding.proofs.Numbers.{number_eight}

@@ -1,6 +1,5 @@
 -- `decoding::number::one` meets its contract.
 -- Assumes nothing.
-use borrow.Author.Rules.{rules}
 use mathlib.Core.Path.{sym, ◌∙◌}
 use Rattle.decoding.proofs.Numbers.{number_one}
 use Rattle.decoding.proofs.number.one.Goals as goal

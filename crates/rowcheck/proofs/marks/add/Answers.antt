@@ -1,5 +1,4 @@
 -- `rowcheck::marks::add` meets its contract. Assumes nothing.
-use borrow.Author.Rules.{rules}
 use mathlib.Core.Path.{◌≡◌, sym, ap, ◌∙◌}
 use mathlib.Core.Bool.{false, not}
 use Prim.Native.Nat.{ℕ, ◌/◌, ◌%◌, ◌<◌}
@@ -15,9 +14,9 @@ use Rattle.rowcheck.proofs.marks.add.Goals as goal
 pub returns-then-test_bit : goal.returns-then-test_bit
 unfolding marked
 returns-then-test_bit c = record {
-      value = sym (ap not (sym c.test_bit.ensures ∙ c.if-test_bit.true));
-      marks_len_2 = λ e. never e;
-    }
+  value = sym (ap not (sym c.test_bit.ensures ∙ c.if-test_bit.true));
+  marks_len_2 = λ e. never e;
+}
 
 pub returns : goal.returns
 unfolding marked

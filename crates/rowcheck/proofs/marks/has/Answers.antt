@@ -1,5 +1,4 @@
 -- `rowcheck::marks::has` meets its contract. Assumes nothing.
-use borrow.Author.Rules.{rules}
 use Rattle.rowcheck.specs.Placed.{marked}
 use Rattle.rowcheck.proofs.marks.has.Goals as goal
 

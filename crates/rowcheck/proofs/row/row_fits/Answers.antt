@@ -1,9 +1,8 @@
 -- `rowcheck::row::row_fits` meets its contract. Assumes nothing.
-use borrow.Author.Rules.{rules}
 use mathlib.Core.Path.{◌≡◌}
 use mathlib.Core.Bool.{true, ◌&&◌}
 use native.Mathlib.Omega.{arith}
-use borrow.Author.Tests.{leb-true, le-leb, not-true, not-false}
+use borrow.Author.Tests.{leb-true, le-leb}
 use lib.Dec.{leb}
 use Rattle.bits.proofs.Tests.{and_both}
 use Rattle.laws.proofs.Bools.{both}
@@ -12,21 +11,21 @@ use Rattle.rowcheck.proofs.row.row_fits.Goals as goal
 
 pub returns-then-k-gt-PLACES : goal.returns-then-k-gt-PLACES
 returns-then-k-gt-PLACES c = record {
-      says = λ p. let m = p.0.most in omega arith;
-      marks = λ e. never e;
-    }
+  says = λ p. let m = p.0.most in omega arith;
+  marks = λ e. never e;
+}
 
 pub returns-then-not-tasks_stand : goal.returns-then-not-tasks_stand
 returns-then-not-tasks_stand c =
     let t = c.tasks_stand in record {
-      says = λ p. no t.result t.ensures.0 c.if-not-tasks_stand.true (p.0.tasks, p.1);
+      says = λ p. no t.result t.ensures.says c.if-not-tasks_stand.true (p.0.tasks, p.1);
       marks = λ e. never e;
     }
 
 pub level_fits-requires : goal.level_fits-requires
 level_fits-requires c =
     let t = c.tasks_stand in
-    let good = yes t.result t.ensures.0 c.if-not-tasks_stand.false in record {
+    let good = yes t.result t.ensures.says c.if-not-tasks_stand.false in record {
       row_len = omega arith;
       by_index = λ i h. (good.0 i h).number;
     }
@@ -38,7 +37,7 @@ returns c =
     let u = c.unused in
     let l = c.level_fits in
     let ok : t.result ≡ true = c.if-not-tasks_stand.false in
-    let good = yes t.result t.ensures.0 ok in record {
+    let good = yes t.result t.ensures.says ok in record {
       says = say (u.result && leb a.flag 1 && l.result)
           (λ e.
           let f = both (u.result && leb a.flag 1) l.result e in
@@ -55,5 +54,5 @@ returns c =
           (λ p.
           and_both _ _ (and_both _ _ (said u.result u.ensures p.0.rest) (le-leb a.flag 1 p.0.small))
           (said l.result l.ensures p.0.right));
-      marks = λ e. t.ensures.1 ok;
+      marks = λ e. t.ensures.marks ok;
     }

@@ -1,5 +1,4 @@
 -- `rowcheck::row::stands` meets its contract. Assumes nothing.
-use borrow.Author.Rules.{rules}
 use mathlib.Core.Bool.{◌&&◌}
 use lib.ListN.{get_or}
 use native.Mathlib.Omega.{arith}

@@ -1,16 +1,11 @@
 -- `rowcheck::row::unused` meets its contract. The loop's invariant: the test says whether the places passed, from `count` on, hold nothing.
 -- Assumes nothing.
-use mathlib.Core.Path.{◌≡◌, refl, ap, ◌∙◌}
-use mathlib.Core.Bool.{Bool, true, false, ◌&&◌}
+use mathlib.Core.Path.{◌≡◌}
 use mathlib.Core.List.{List}
-use Prim.Native.Nat.{ℕ, ◌+◌, ◌-◌, ◌≤◌, ◌<◌}
-use native.Mathlib.Omega.{arith}
-use lib.Dec.{eqb, ltb}
+use Prim.Native.Nat.{ℕ, ◌-◌, ◌≤◌, ◌<◌}
 use lib.ListN.{get_or}
-use borrow.Author.Tests.{eqb-true, eq-eqb, ltb-true, ltb-false}
 use Rattle.rules.specs.Tables.{nothing}
 use Rattle.rowcheck.specs.Says.{Says}
-use Rattle.rowcheck.proofs.Saying.{say}
 use Rattle.rowcheck.proofs.row.unused.Given as goal
 
 -- the places from `count` up to i hold nothing

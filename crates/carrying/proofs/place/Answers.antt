@@ -1,0 +1,56 @@
+-- `carrying::place` meets its contract.
+-- Assumes nothing.
+use mathlib.Core.Path.{sym, subst}
+use Rattle.cpupri.specs.Record.{Whole}
+use Rattle.rules.specs.Plan.{wrote, carried}
+use Rattle.plans.specs.Decided.{as_plan}
+use Rattle.carrying.proofs.Placing.{leaves, sized, still_sized, whole, enters, follows_origin, follows_target, placed}
+use Rattle.parts.proofs.Optional.{still_whole_if}
+use Rattle.carrying.proofs.place.Goals as goal
+
+pub leave_if-requires : goal.leave_if-requires
+leave_if-requires c = (c.requires.0, leaves c.requires.1)
+
+pub write-requires : goal.write-requires
+write-requires c = let l = c.requires.1 in record {
+  at_lt_task_places = l.ready.task;
+  sized = sized l;
+}
+
+pub enter_if-requires : goal.enter_if-requires
+enter_if-requires c =
+    let l = c.requires.1 in
+    let o = c.leave_if.ensures c.requires.0 (leaves l) in record {
+      entering_if = (wrote (as_plan c.args.plan) c.requires.0, enters l o c.write.ensures.prio_value);
+      cpus_len = still_sized l c.write.ensures.cpu_value;
+    }
+
+pub follow_if-requires : goal.follow_if-requires
+follow_if-requires c =
+    let m = c.requires.0 in
+    let l = c.requires.1 in
+    let o = c.leave_if.ensures m (leaves l) in
+    let e = c.enter_if.ensures.fact_1 _ (enters l o c.write.ensures.prio_value) in record {
+      following_if = (carried (as_plan c.args.plan) m, follows_origin l o c.write.ensures.prio_value e);
+      whole = whole l;
+    }
+
+pub follow_if-requires-2 : goal.follow_if-requires-2
+follow_if-requires-2 c =
+    let m = c.requires.0 in
+    let l = c.requires.1 in
+    let o = c.leave_if.ensures m (leaves l) in
+    let e = c.enter_if.ensures.fact_1 _ (enters l o c.write.ensures.prio_value) in
+    let f = follows_origin l o c.write.ensures.prio_value e in record {
+      following_if = (carried (as_plan c.args.plan) m, follows_target l o c.write.ensures.prio_value e);
+      whole = subst Whole (sym (c.follow_if.ensures _ f)) (still_whole_if f (whole l));
+    }
+
+pub returns : goal.returns
+returns c =
+    λ m l.
+    let o = c.leave_if.ensures m (leaves l) in
+    let e = c.enter_if.ensures.fact_1 _ (enters l o c.write.ensures.prio_value) in
+    let r = c.follow_if.ensures _ (follows_origin l o c.write.ensures.prio_value e) in
+    let q = c.follow_if-2.ensures _ (follows_target l o c.write.ensures.prio_value e) in
+    placed l o c.write.ensures.prio_value e c.write.ensures.state_value c.write.ensures.policy_value c.write.ensures.cpu_value c.write.ensures.slice_value c.write.ensures.mask_value c.enter_if.ensures.fact_2 r q
