@@ -1,10 +1,8 @@
 -- `abifresh::qoriwesh_make_fresh` meets its contract.
 -- Assumes nothing.
 use mathlib.Core.Path.{refl, sym, ◌∙◌}
-use borrow.Author.Tests.{not-true, not-false}
 use Rattle.levels.specs.Record.{lent_record}
 use Rattle.levels.specs.declared.record.Record.{Record}
-use Rattle.cpupri.specs.Record.{lent_record}
 use Rattle.lenttables.specs.Lent.{lent}
 use Rattle.rules.specs.Tables.{Tables}
 use Rattle.lentrecord.proofs.Entries.{made_unfit, made_fit}
@@ -52,6 +50,6 @@ returns c =
     let o = c.make_fresh-made in
     let w = (goal.at.returns c).After-write in record {
       as_ruled = made_fit c.args.n o.result.answer (given s) g.result o.result.«record» (left w) (tables s) (left_tables w)
-          (sym f.ensures ∙ c.if-not-lengths_fit.false) g.ensures o.ensures.0 c.write.ensures;
-      slice_handed_back = o.ensures.1;
+          (sym f.ensures ∙ c.if-not-lengths_fit.false) g.ensures o.ensures.fact_1 c.write.ensures;
+      slice_handed_back = o.ensures.fact_2;
     }
