@@ -1,7 +1,6 @@
 -- `deciding::decide` meets its contract: each arm by its kind's contract.
 -- Assumes nothing.
-use borrow.Author.Rules.{rules}
-use mathlib.Core.Path.{refl, ap, subst, sym}
+use mathlib.Core.Path.{ap, subst, sym}
 use Prim.Native.Nat.{ℕ, ◌≤◌}
 use Rattle.rules.specs.Machine.{cpu_places}
 use Rattle.rules.specs.Events.{Event, event, kind_of, add, remove, set_ordinary, take_offline, bring_online}
@@ -18,13 +17,13 @@ module _ (c : Start) where
 
 pub task_at-task-requires : goal.task_at-task-requires
 task_at-task-requires c = let all = sized c.requires.lent.1 in record {
-      state_len = all.0;
-      policy_len = all.1.0;
-      prio_len = all.1.1.0;
-      cpu_len = all.1.1.1.0;
-      slice_len = all.1.1.1.1.0;
-      mask_len = all.1.1.1.1.1;
-    }
+  state_len = all.0;
+  policy_len = all.1.0;
+  prio_len = all.1.1.0;
+  cpu_len = all.1.1.1.0;
+  slice_len = all.1.1.1.1.0;
+  mask_len = all.1.1.1.1.1;
+}
 
 pub add-requires : goal.add-requires
 add-requires c = few_cpus (goal.at.add-requires c).Start
@@ -73,7 +72,7 @@ returns-in-11 c =
 pub returns-in_default : goal.returns-in_default
 returns-in_default c =
     λ m l.
-    let r = c.in_default-own.rest in
+    let r = c.before.in_default.in_default-own.rest in
     unknown m (asked (goal.at.returns-in_default c).Start)
     (let q = c.requires.rare in
     unnamed c.args.kind r.0.0.0.0.1 r.0.0.0.1 q.wake q.sleep q.set_priority q.set_affinity q.tick q.yield r.0.0.1 r.0.1 r.1)

@@ -7,7 +7,7 @@ use mathlib.Core.Option.{Option, some}
 use Prim.Native.Nat.{◌*◌, ◌<◌}
 use native.Mathlib.Omega.{arith}
 use lib.ListN.{length}
-use borrow.Author.Tests.{not-true, not-false, eqb-false, lt-ltb, le-ltb}
+use borrow.Author.Tests.{ne_eqb, eq-eqb, not-true, not-false, eqb-false, lt-ltb, le-ltb}
 use Rattle.rules.specs.Machine.{task_places}
 use Rattle.laws.specs.Limited.{or_nothing}
 use Rattle.laws.proofs.Apart.{in_row}
@@ -38,9 +38,9 @@ returns-then-not-ran c =
     let no = c.if-not-ran.true in
     moved l o e refl
     (level_kept l d h.0
-    (left_behind t τ m d (in_rows l d h.0) (λ q. eqb-false _ t no (first_is (reading l) d h.0 ∙ ap (λ (x : Option _). or_nothing x) q))))
+    (left_behind t τ m d (in_rows l d h.0) (λ q. no (first_is (reading l) d h.0 ∙ ap (λ (x : Option _). or_nothing x) q))))
     (unfollowed l)
-    (few_since l d h.0 (in_row m t d l.formed h.1).1 (reading_now l o e refl) false _ no refl
+    (few_since l d h.0 (in_row m t d l.formed h.1).1 (reading_now l o e refl) false _ (ne_eqb _ t no) refl
     (new_away (reading_now l o e refl) (state_after l) t l.ready.task d false (λ z. s (sym (state_is l) ∙ z))))
 
 pub follow_if-requires : goal.follow_if-requires
@@ -62,7 +62,7 @@ returns-then-levels-origin c =
     let q = c.follow_if.ensures _ (follows_origin (own l) o l.prio e) in
     let a = reading_after l o e refl q (after_own _ q) in
     moved l o e refl q (after_own _ q)
-    (few_since l d h.0 (in_row m t d l.formed h.1).1 a true true c.if-not-ran.false (lt-ltb _ _ c.if-levels-origin.true)
+    (few_since l d h.0 (in_row m t d l.formed h.1).1 a true true (eq-eqb _ t c.if-not-ran.false) (lt-ltb _ _ c.if-levels-origin.true)
     (new_away (unlevelled a) (state_after l) t l.ready.task d true (λ z. s (sym (state_is l) ∙ z))))
 
 pub returns : goal.returns
@@ -76,5 +76,8 @@ returns c =
     let q = c.follow_if.ensures _ (follows_origin (own l) o l.prio e) in
     let a = reading_after l o e refl q (after_own _ q) in
     moved l o e refl q (after_own _ q)
-    (few_since l d h.0 (in_row m t d l.formed h.1).1 a true false c.if-not-ran.false (le-ltb _ _ c.if-levels-origin.false)
+    (few_since l d h.0 (in_row m t d l.formed h.1).1 a true false (eq-eqb _ t c.if-not-ran.false) (le-ltb _ _ c.if-levels-origin.false)
     (new_away (unlevelled a) (state_after l) t l.ready.task d true (λ z. s (sym (state_is l) ∙ z))))
+
+pub bounds-rows-origin : goal.bounds-rows-origin
+bounds-rows-origin c = let r = room (goal.at.bounds-rows-origin c).Start in omega (arith, r.0)

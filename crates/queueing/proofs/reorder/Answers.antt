@@ -36,7 +36,7 @@ since-requires c =
     let o = left_out l in
     let e = reordered l c.reorder.ensures.rows_are c.reorder.ensures.counts_are in
     let q = twice l (c.follow_if.ensures _ (follows_origin (own l) o l.prio e)) in (
-      _,
+      carried (reorder c.args.front c.args.task c.args.home c.requires.1.0) c.requires.0,
       (
         reading_after l o e (cpu_kept l) refl q,
         state_after l,
@@ -53,5 +53,5 @@ returns c =
     let q = twice l (c.follow_if.ensures _ (follows_origin (own l) o l.prio e)) in
     let is = c.standing-past.ensures m (reading l) in
     moved l o e (cpu_kept l) refl q
-    (c.since.ensures _ (reading_after l o e (cpu_kept l) refl q) (state_after l) (subst (Standing _) (sym is) (stands l))
+    (c.since.ensures (carried (reorder x.front x.task x.home τ) m) (reading_after l o e (cpu_kept l) refl q) (state_after l) (subst (Standing _) (sym is) (stands l))
     ∙ ap (λ (s : Past). candidates_since s (carried (reorder x.front x.task x.home τ) m)) is)

@@ -52,7 +52,7 @@ since-requires c =
     let e = c.enter_if.ensures.fact_1 _ (enters (own l) o l.prio) in
     let r = c.follow_if.ensures _ (follows_origin (own l) o l.prio e) in
     let q = c.follow_if-2.ensures _ (follows_target (own l) o l.prio e) in (
-      _,
+      carried (shift c.args.task c.args.origin c.requires.1.0 c.args.target) c.requires.0,
       (
         reading_after l o e c.enter_if.ensures.fact_2 r q,
         state_after l,
@@ -70,5 +70,5 @@ returns c =
     let q = c.follow_if-2.ensures _ (follows_target (own l) o l.prio e) in
     let is = c.standing-past.ensures m (reading l) in
     moved l o e c.enter_if.ensures.fact_2 r q
-    (c.since.ensures _ (reading_after l o e c.enter_if.ensures.fact_2 r q) (state_after l) (subst (Standing _) (sym is) (stands l))
+    (c.since.ensures (carried (shift x.task x.origin τ x.target) m) (reading_after l o e c.enter_if.ensures.fact_2 r q) (state_after l) (subst (Standing _) (sym is) (stands l))
     ∙ ap (λ (s : Past). candidates_since s (carried (shift x.task x.origin τ x.target) m)) is)

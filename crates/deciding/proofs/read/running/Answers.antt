@@ -1,8 +1,6 @@
 -- `deciding::read::running` meets its contract.
 -- Assumes nothing.
-use borrow.Author.Rules.{rules}
-use native.Mathlib.Omega.{arith}
-use Rattle.deciding.proofs.Running.{counted, none_runs, one_runs, place_in, no_cpu_lem}
+use Rattle.deciding.proofs.Running.{none_runs, one_runs, place_in, no_cpu_lem}
 use Rattle.deciding.proofs.read.running.Goals as goal
 
 pub returns-then-n-cpu : goal.returns-then-n-cpu
