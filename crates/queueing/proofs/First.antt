@@ -3,19 +3,18 @@
 use mathlib.Core.Path.{◌≡◌, refl, sym, ap, ◌∙◌, subst}
 use mathlib.Core.Bool.{Bool, true, false, cond}
 use mathlib.Core.List.{List, [], ◌∷◌}
-use mathlib.Core.Logic.{◌≢◌, ◌⊎◌, inl, inr}
+use mathlib.Core.Logic.{◌⊎◌, inl, inr}
 use mathlib.Core.Option.{Option, none, some}
 use Prim.Native.Nat.{ℕ, ◌≤◌, ◌<◌}
 use native.Mathlib.Omega.{arith}
 use lib.Dec.{eqb, ltb}
 use lib.ListN.{length, get_or, set, length-set}
-use lib.Seq.{get_or-set_same, get_or-set_other, set-get_or}
+use lib.Seq.{get_or-set_other, set-get_or}
 use borrow.Author.Tests.{eqb-true, eq-eqb, ltb-false}
-use Rattle.rules.specs.Lists.{In, Falling, insert_before, delete}
-use Rattle.rules.specs.Machine.{Machine, Task, prio_of, row, head, running, idle_level, row_level, level, level_of, write, queued, enqueue_at, dequeue}
-use Rattle.rules.specs.Plan.{Plan, carried, enter, leave, reorder}
-use Rattle.laws.proofs.Lists.{in_here, same?}
-use Rattle.laws.proofs.Limited.{none_some}
+use Rattle.rules.specs.Lists.{Falling, insert_before, delete}
+use Rattle.rules.specs.Machine.{Machine, Task, prio_of, row, head, running, idle_level, row_level, level, level_of, write, queued, dequeue}
+use Rattle.rules.specs.Plan.{carried, enter, leave, reorder}
+use Rattle.laws.proofs.Lists.{in_here}
 use Rattle.laws.proofs.Rows.{row_same}
 use Rattle.laws.proofs.Step.{level_head}
 

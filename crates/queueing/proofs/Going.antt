@@ -3,7 +3,7 @@
 use mathlib.Core.Path.{◌≡◌, refl, sym, ap, ◌∙◌, subst}
 use mathlib.Core.Bool.{Bool, true, false, cond, ◌&&◌}
 use mathlib.Core.Logic.{◌≢◌, ◌⊎◌, inl, inr}
-use mathlib.Core.List.{List, [], ◌∷◌}
+use mathlib.Core.List.{List}
 use Prim.Native.Nat.{ℕ, ◌*◌, ◌≤◌, ◌<◌}
 use native.Mathlib.Omega.{arith}
 use lib.Dec.{eqb, ltb}
@@ -13,7 +13,7 @@ use Rattle.cpupri.specs.Record.{record_of}
 use Rattle.levels.specs.declared.record.Record.{Record}
 use Rattle.rules.specs.Lists.{delete}
 use Rattle.rules.specs.Machine.{Machine, Task, task_of, row, running, level, levels, write, queued, entry_key, dequeue, runnable, task_places, cpu_places, highest_priority}
-use Rattle.rules.specs.Plan.{Plan, reorder, left, wrote, carried, When}
+use Rattle.rules.specs.Plan.{Plan, reorder, left, carried}
 use Rattle.rules.specs.Tables.{flat_of, row_counts}
 use Rattle.rules.specs.WellFormed.{WellFormed}
 use Rattle.laws.specs.Limited.{holds}

@@ -1,19 +1,17 @@
 -- `queueing::enter` meets its contract.
 -- Assumes nothing.
-use borrow.Author.Rules.{rules}
 use mathlib.Core.Path.{◌≡◌, refl, sym, ap, ◌∙◌}
 use mathlib.Core.Bool.{Bool, false}
-use mathlib.Core.List.{List}
-use mathlib.Core.Option.{Option, some}
+use mathlib.Core.Option.{Option}
 use Prim.Native.Nat.{ℕ, ◌+◌, ◌*◌, ◌<◌}
 use native.Mathlib.Omega.{arith}
 use lib.ListN.{length, get_or}
-use Rattle.rules.specs.Machine.{Machine, Task, task_of, running, level, levels, task_places, cpu_places}
+use Rattle.rules.specs.Machine.{Machine, task_of, running, level, task_places, cpu_places}
 use Rattle.rules.specs.Plan.{carried, enter}
 use Rattle.laws.specs.Limited.{holds, or_nothing}
 use Rattle.carrying.proofs.Placing.{leaves, enters, whole, follows_target, cpus_kept}
 use Rattle.hinting.specs.Hinted.{candidates}
-use Rattle.hinting.specs.Past.{Reading, new_since, fallen_since}
+use Rattle.hinting.specs.Past.{new_since, fallen_since}
 use Rattle.hinting.proofs.Lent.{rows_long, first_is, new_waits, new_behind}
 use Rattle.queueing.proofs.First.{entered_behind}
 use Rattle.queueing.proofs.Going.{own, cpus_long, unfollowed, level_kept, state_is, cpu_entered, state_after, reading_now, in_rows, moved, not_running, was_idle}

@@ -1,14 +1,12 @@
 -- `queueing::leave` meets its contract.
 -- Assumes nothing.
-use borrow.Author.Rules.{rules}
-use mathlib.Core.Path.{◌≡◌, refl, sym, ap, ◌∙◌}
+use mathlib.Core.Path.{refl, sym, ap, ◌∙◌}
 use mathlib.Core.Bool.{true, false}
-use mathlib.Core.Option.{Option, some}
+use mathlib.Core.Option.{Option}
 use Prim.Native.Nat.{◌*◌, ◌<◌}
 use native.Mathlib.Omega.{arith}
 use lib.ListN.{length}
-use borrow.Author.Tests.{ne_eqb, eq-eqb, not-true, not-false, eqb-false, lt-ltb, le-ltb}
-use Rattle.rules.specs.Machine.{task_places}
+use borrow.Author.Tests.{ne_eqb, eq-eqb, lt-ltb, le-ltb}
 use Rattle.laws.specs.Limited.{or_nothing}
 use Rattle.laws.proofs.Apart.{in_row}
 use Rattle.carrying.proofs.Placing.{leaves, enters, whole, follows_origin}

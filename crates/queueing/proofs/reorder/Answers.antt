@@ -10,18 +10,18 @@ use Rattle.queueing.proofs.reorder.Goals as goal
 
 pub standing-past-requires : goal.standing-past-requires
 standing-past-requires c = let l = c.requires.1.1 in record {
-      task_lt_task_places = l.ready.task;
-      reading = (_, reading l);
-    }
+  task_lt_task_places = l.ready.task;
+  reading = (_, reading l);
+}
 
 pub reorder-requires : goal.reorder-requires
 reorder-requires c = let all = reorderable c.requires.1.1 in record {
-      holds_rows = all.0;
-      cpu_in_bounds = all.1.0;
-      prio_len = all.1.1.0;
-      task_bound = all.1.1.1.0;
-      reorderable = all.1.1.1.1;
-    }
+  holds_rows = all.0;
+  cpu_in_bounds = all.1.0;
+  prio_len = all.1.1.0;
+  task_bound = all.1.1.1.0;
+  reorderable = all.1.1.1.1;
+}
 
 pub follow_if-requires : goal.follow_if-requires
 follow_if-requires c =
@@ -40,7 +40,7 @@ since-requires c =
       (
         reading_after l o e (cpu_kept l) refl q,
         state_after l,
-        subst (Standing _) (sym (c.standing-past.ensures _ (reading l))) (stands l),
+        subst (Standing (carried (reorder c.args.front c.args.task c.args.home c.requires.1.0) c.requires.0)) (sym (c.standing-past.ensures _ (reading l))) (stands l),
       ),
     )
 
@@ -53,5 +53,5 @@ returns c =
     let q = twice l (c.follow_if.ensures _ (follows_origin (own l) o l.prio e)) in
     let is = c.standing-past.ensures m (reading l) in
     moved l o e (cpu_kept l) refl q
-    (c.since.ensures (carried (reorder x.front x.task x.home τ) m) (reading_after l o e (cpu_kept l) refl q) (state_after l) (subst (Standing _) (sym is) (stands l))
+    (c.since.ensures (carried (reorder x.front x.task x.home τ) m) (reading_after l o e (cpu_kept l) refl q) (state_after l) (subst (Standing (carried (reorder x.front x.task x.home τ) m)) (sym is) (stands l))
     ∙ ap (λ (s : Past). candidates_since s (carried (reorder x.front x.task x.home τ) m)) is)

@@ -73,12 +73,12 @@ module _ (c : After-reorder) where
 -- ---- the needs
 pub reorder-requires : goal.reorder-requires
 reorder-requires c = let all = reorderable c.requires.1.1.0 in record {
-      holds_rows = all.0;
-      cpu_in_bounds = all.1.0;
-      prio_len = all.1.1.0;
-      task_bound = all.1.1.1.0;
-      reorderable = all.1.1.1.1;
-    }
+  holds_rows = all.0;
+  cpu_in_bounds = all.1.0;
+  prio_len = all.1.1.0;
+  task_bound = all.1.1.1.0;
+  reorderable = all.1.1.1.1;
+}
 
 pub returns-then-rows-home : goal.returns-then-rows-home
 returns-then-rows-home c =

@@ -12,9 +12,9 @@ use Rattle.queueing.proofs.shift.Goals as goal
 
 pub standing-past-requires : goal.standing-past-requires
 standing-past-requires c = let l = c.requires.1.1 in record {
-      task_lt_task_places = l.ready.task;
-      reading = (_, reading l);
-    }
+  task_lt_task_places = l.ready.task;
+  reading = (_, reading l);
+}
 
 pub leave_if-requires : goal.leave_if-requires
 leave_if-requires c = let l = c.requires.1.1 in (_, leaves (own l))
@@ -56,7 +56,7 @@ since-requires c =
       (
         reading_after l o e c.enter_if.ensures.fact_2 r q,
         state_after l,
-        subst (Standing _) (sym (c.standing-past.ensures _ (reading l))) (stands l),
+        subst (Standing (carried (shift c.args.task c.args.origin c.requires.1.0 c.args.target) c.requires.0)) (sym (c.standing-past.ensures _ (reading l))) (stands l),
       ),
     )
 
@@ -70,5 +70,5 @@ returns c =
     let q = c.follow_if-2.ensures _ (follows_target (own l) o l.prio e) in
     let is = c.standing-past.ensures m (reading l) in
     moved l o e c.enter_if.ensures.fact_2 r q
-    (c.since.ensures (carried (shift x.task x.origin τ x.target) m) (reading_after l o e c.enter_if.ensures.fact_2 r q) (state_after l) (subst (Standing _) (sym is) (stands l))
+    (c.since.ensures (carried (shift x.task x.origin τ x.target) m) (reading_after l o e c.enter_if.ensures.fact_2 r q) (state_after l) (subst (Standing (carried (shift x.task x.origin τ x.target) m)) (sym is) (stands l))
     ∙ ap (λ (s : Past). candidates_since s (carried (shift x.task x.origin τ x.target) m)) is)
