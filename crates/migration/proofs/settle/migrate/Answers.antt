@@ -19,10 +19,7 @@ use Rattle.placement.proofs.Joining.{can_leave, has_left}
 use Rattle.migration.specs.Settling.{Stepping}
 use Rattle.mover.proofs.Candidates.{tail_in}
 use Rattle.choosing.proofs.Steps.{levels_left}
-use Rattle.migration.proofs.settle.migrate.Statement.{statement}
-use Rattle.migration.proofs.settle.migrate.Tie as tie
-use Rattle.migration.proofs.settle.migrate.Proof.Paths as at
-mod Paths
+use Rattle.migration.proofs.settle.migrate.Goals as goal
 
 module _ {ps ks flat : List ℕ} {r : Record} {v : Move} (m : Machine) (s : Stepping m ps ks flat r v) where
   abbrev t : ℕ
@@ -57,7 +54,7 @@ module _ {ps ks flat : List ℕ} {r : Record} {v : Move} (m : Machine) (s : Step
         };
         cpu = k.small;
         task = runnable_place m t s.well k.runs;
-        high = (runnable_fit m t s.well k.runs).prio-high;
+        high = (runnable_fit m t s.well k.runs).prio_high;
         room = room_step m v s.well s.applies;
       }
     where
@@ -65,27 +62,26 @@ module _ {ps ks flat : List ℕ} {r : Record} {v : Move} (m : Machine) (s : Step
       left = has_left m t s.held leaves_small stands ef ek
 
 -- ---- the needs
+pub dequeue-requires : goal.dequeue-requires
+dequeue-requires c =
+    let m = c.requires.fact.0 in
+    let s = c.requires.fact.1 in let all = can_leave m c.args.step.task s.held (leaves_small m s) (stands m s) in record {
+      holds_rows = all.0;
+      cpu_in_bounds = all.1.0;
+      fact = all.1.1;
+    }
 
-dequeue-requires : tie.Need-dequeue-requires
-dequeue-requires c κs =
-    let k = at.dequeue-requires c in
-    let m = k.pre.0.0 in
-    let s = k.pre.0.1 in
-    can_leave m k.args.step.task s.held (leaves_small m s) (stands m s)
+pub enter-requires : goal.enter-requires
+enter-requires c =
+    let m = c.requires.fact.0 in
+    let s = c.requires.fact.1 in record {
+      fact = (dequeue c.args.step.task c.args.step.origin m, entering m s c.dequeue.ensures.fact_2 c.dequeue.ensures.fact_1);
+      cpus_len = c.requires.cpus_len;
+    }
 
-enter-requires : tie.Need-enter-requires
-enter-requires c κs =
-    let k = at.enter-requires c in
-    let m = k.pre.0.0 in
-    let s = k.pre.0.1 in
-    ((dequeue k.args.step.task k.args.step.origin m, entering m s k.dequeue.ensures.1 k.dequeue.ensures.0), k.pre.1)
-
-returns : tie.Need-returns
+pub returns : goal.returns
 returns c =
-    let k = at.returns c in (
-      λ m s. k.enter.ensures.0 (dequeue k.args.step.task k.args.step.origin m) (entering m s k.dequeue.ensures.1 k.dequeue.ensures.0),
-      k.enter.ensures.1,
-    )
-
-pub migrate_spec : {M : Type 1} → statement M
-migrate_spec = at.close dequeue-requires enter-requires returns
+    record {
+      fact_1 = λ m s. c.enter.ensures.fact_1 (dequeue c.args.step.task c.args.step.origin m) (entering m s c.dequeue.ensures.fact_2 c.dequeue.ensures.fact_1);
+      fact_2 = c.enter.ensures.fact_2;
+    }
