@@ -9,7 +9,6 @@ use Prim.Native.Nat.{ℕ, ◌≤◌, ◌<◌}
 use types.Run.{OneOf}
 use denote.Enum.Declared.{tag_of}
 use native.Mathlib.Omega.{arith}
-use lib.Dec.{eqb}
 use lib.ListN.{length, set, get_or}
 use lib.Seq.{set-get_or}
 use borrow.Author.Tests.{eq-eqb, ne_eqb}
