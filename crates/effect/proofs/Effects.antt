@@ -2,13 +2,10 @@
 -- Assumes nothing.
 use mathlib.Core.Path.{◌≡◌, refl, sym, ap, ◌∙◌, subst, subst₂}
 use mathlib.Core.Bool.{Bool, true, false, cond, true≢false}
-use mathlib.Core.List.{List, [], ◌∷◌}
+use mathlib.Core.List.{List}
 use mathlib.Core.Logic.{◌⊎◌, inl, inr}
 use mathlib.Core.Option.{none, some}
 use Prim.Native.Nat.{ℕ, ◌≤◌, ◌<◌}
-use types.Run.{OneOf}
-use denote.Enum.Declared.{tag_of}
-use native.Mathlib.Omega.{arith}
 use lib.ListN.{length, set, get_or}
 use lib.Seq.{set-get_or}
 use borrow.Author.Tests.{eq-eqb, ne_eqb}
@@ -32,7 +29,6 @@ use Rattle.plans.specs.declared.plan.Task.{Task as Columns}
 use Rattle.plans.specs.declared.plan.Plan.{Plan as Written}
 use Rattle.plans.specs.declared.plan.Decision.{Decision}
 use Rattle.plans.specs.declared.plan.Decision.TheVariants.{Refused, Nothing, Place, Flag, Offline, Online}
-use Rattle.plans.specs.contracts.plan.Decision.{the_type}
 use Rattle.deciding.specs.Subject.{entries, Decides, LentRows}
 use Rattle.carrying.specs.Holds.{Holds, Placeable}
 use Rattle.carrying.proofs.Placing.{column, flags_kept, online_kept}
@@ -45,19 +41,13 @@ use Rattle.effect.specs.Effected.{told, Lends, Effected}
 use Rattle.effect.specs.declared.Effect.{Effect}
 
 -- of a kind that may give a plan, what is neither refused nor placed is nothing
-pub only_nothing : (s : Plan → Type 0) (d : Decision) → OneOf (1 ∷ 3 ∷ 4 ∷ 5 ∷ []) (tag_of the_type d) → Shaped s d → d ≡ Nothing
-only_nothing s (Refused a) (inl h) k = absurd (omega arith)
-only_nothing s (Refused a) (inr (inl h)) k = absurd (omega arith)
-only_nothing s (Refused a) (inr (inr (inl h))) k = absurd (omega arith)
-only_nothing s (Refused a) (inr (inr (inr h))) k = absurd (omega arith)
-only_nothing s Nothing h k = refl
-only_nothing s (Place p) (inl h) k = absurd (omega arith)
-only_nothing s (Place p) (inr (inl h)) k = absurd (omega arith)
-only_nothing s (Place p) (inr (inr (inl h))) k = absurd (omega arith)
-only_nothing s (Place p) (inr (inr (inr h))) k = absurd (omega arith)
-only_nothing s (Flag c b) h k = absurd k
-only_nothing s (Offline c) h k = absurd k
-only_nothing s (Online c) h k = absurd k
+pub only_nothing : (s : Plan → Type 0) (d : Decision) → ((x : ℕ) → d ≡ Refused x → ⊥) → ((p : Written) → d ≡ Place p → ⊥) → Shaped s d → d ≡ Nothing
+only_nothing s (Refused a) not_refused not_placed k = absurd (not_refused a refl)
+only_nothing s Nothing not_refused not_placed k = refl
+only_nothing s (Place p) not_refused not_placed k = absurd (not_placed p refl)
+only_nothing s (Flag c b) not_refused not_placed k = absurd k
+only_nothing s (Offline c) not_refused not_placed k = absurd k
+only_nothing s (Online c) not_refused not_placed k = absurd k
 
 -- ---- a plan by its shape: the task stays where it is, or goes one of several ways
 
