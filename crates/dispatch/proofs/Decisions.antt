@@ -2,18 +2,13 @@
 -- Assumes nothing.
 use mathlib.Core.Path.{◌≡◌, refl, sym, ap}
 use mathlib.Core.Bool.{Bool, true, false, cond}
-use mathlib.Core.Logic.{inl, inr}
-use mathlib.Core.List.{[], ◌∷◌}
 use Prim.Native.Nat.{ℕ}
-use types.Run.{OneOf}
-use denote.Enum.Declared.{tag_of}
 use native.Mathlib.Omega.{arith}
 use Rattle.rules.specs.Machine.{Machine}
 use Rattle.rules.specs.Events.{Event, effect}
 use Rattle.rules.specs.Refusals.{refusal}
 use Rattle.plans.specs.Decided.{did}
 use Rattle.deciding.specs.Subject.{Decides}
-use Rattle.plans.specs.contracts.plan.Decision.{the_type}
 use Rattle.plans.specs.declared.plan.Decision.{Decision}
 use Rattle.plans.specs.declared.plan.Decision.TheVariants.{Refused, Nothing, Place, Flag, Offline, Online}
 use Rattle.carrying.specs.Holds.{Ready}
@@ -28,12 +23,8 @@ accepted (Offline c) = true
 accepted (Online c) = true
 
 -- none of the variants behind the first
-pub not_refused : (d : Decision) → OneOf (1 ∷ 2 ∷ 3 ∷ 4 ∷ 5 ∷ []) (tag_of the_type d) → accepted d ≡ true
-not_refused (Refused a) (inl h) = absurd (omega arith)
-not_refused (Refused a) (inr (inl h)) = absurd (omega arith)
-not_refused (Refused a) (inr (inr (inl h))) = absurd (omega arith)
-not_refused (Refused a) (inr (inr (inr (inl h)))) = absurd (omega arith)
-not_refused (Refused a) (inr (inr (inr (inr h)))) = absurd (omega arith)
+pub not_refused : (d : Decision) → ((a : ℕ) → d ≡ Refused a → ⊥) → accepted d ≡ true
+not_refused (Refused a) h = absurd (h a refl)
 not_refused Nothing h = refl
 not_refused (Place p) h = refl
 not_refused (Flag c b) h = refl
