@@ -1,6 +1,6 @@
 -- From what the parts of `play` ensure to one event more.
 -- Assumes nothing.
-use Rattle.std.proofs.Common.{◌≡◌, ℕ, ◌+◌, ◌-◌, ◌%◌, ◌^◌, ◌<◌, ◌≤◌, Bool, true, false, not, eqb, List, length, get_or, ap, ◌∙◌, arith}
+use Rattle.std.proofs.Common.{◌≡◌, ℕ, ◌+◌, ◌%◌, ◌^◌, ◌<◌, ◌≤◌, Bool, true, false, not, eqb, List, length, get_or, ap, ◌∙◌, arith}
 use Rattle.bits.specs.Bit.{digit}
 use Rattle.levels.specs.declared.record.Record.{Record}
 use Rattle.rules.specs.Events.{event}

@@ -5,12 +5,10 @@ use lib.ListN.{get_or}
 use mir.Syntax.{w64}
 use mir.Val.{Fits}
 use Rattle.cpupri.specs.Consistent.{Sized}
-use Rattle.machine.proofs.event.Statement.{statement}
-use Rattle.machine.proofs.event.Tie as tie
-use Rattle.machine.proofs.event.Proof.Paths as at
-mod Paths
+use Rattle.machine.proofs.event.Goals.{Start}
+use Rattle.machine.proofs.event.Goals as goal
 
-sized : (c : tie.Start) → Sized c.args.«record»
+sized : (c : Start) → Sized c.args.«record»
 sized c = record {
   masks = search rules;
   counts = search rules;
@@ -20,11 +18,12 @@ sized c = record {
   word = λ i. let f : Fits w64 (get_or c.args.«record».words i 0) = search rules in f.fits;
 }
 
-event-lent-requires : tie.Need-event-lent-requires
-event-lent-requires c κs = sized (at.event-lent-requires c).start
+pub event_lent-done-requires : goal.event_lent-done-requires
+event_lent-done-requires c = sized (goal.at.event_lent-done-requires c).Start
 
-returns : tie.Need-returns
-returns c = (at.returns c).event-lent.ensures
-
-pub event_spec : {M : Type 1} → statement M
-event_spec = at.close event-lent-requires returns
+pub returns : goal.returns
+returns c = record {
+  as_ruled = c.event_lent-done.ensures.as_ruled;
+  demand3_holds = c.event_lent-done.ensures.demand3_holds;
+  leaves_well_formed = c.event_lent-done.ensures.leaves_well_formed;
+}
