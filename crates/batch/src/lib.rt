@@ -1,5 +1,5 @@
 // A run of event records, at most 64 at a time: thin functions over a slice of structs, which take an event apart and call the
-// covered function on plain numbers. Their proofs are walks by hand, which scripts/walks writes from the parameter lists.
+// covered function on plain numbers.
 #![tactic(auto)]
 
 ghost use Rattle.std.specs.Prelude.{◌≡◌, ◌<◌, ◌≤◌, length, get_or, take};
