@@ -172,6 +172,9 @@ def parameters(text, start):
 
 def clauses(text, at):
     """the span from the signature's end to the body's brace: the clauses"""
+    head = re.compile(r"[^\n{;]*[{;]").match(text, at)
+    if head:  # the body, or the end of a declaration, is on the signature's own line: there are none
+        return at, at
     m = re.compile(r"\n[ \t]*\{").search(text, at)
     return at, m.start() if m else at
 

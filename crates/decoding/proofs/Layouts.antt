@@ -4,9 +4,10 @@ use mathlib.Core.Path.{◌≡◌, refl, sym, ap, subst, ◌∙◌}
 use mathlib.Core.List.{List, [], ◌∷◌}
 use mathlib.Core.Logic.{inl, inr}
 use mathlib.Core.Option.{Option, none, some}
-use Prim.Native.Nat.{ℕ, zero, suc, ◌≤◌}
+use Prim.Native.Nat.{ℕ, zero, suc, ◌≤◌, ◌<◌}
+use native.Mathlib.Nat.{not-suc-le-zero, le_of_suc-le-suc}
 use native.Mathlib.Omega.{arith}
-use lib.ListN.{get_elem?}
+use lib.ListN.{length, get_elem?}
 use Rattle.recording.specs.declared.Layout.{Layout}
 use Rattle.recording.specs.Layout.{layouts, layout_of, widths, body_length}
 use Rattle.decoding.specs.Fields.{Fields, Wide, widths_of}
@@ -67,6 +68,22 @@ layout_some k h = go (layout_of k) (seen k) h
     go : (o : Option Layout) → Seen o → ((widths_of o).who ≡ 0 → ⊥) → (o ≡ some (widths_of o)) × Known (widths_of o)
     go none s e = absurd (e refl)
     go (some l) s e = (refl, s)
+
+beyond : (ls : List Layout) (i : ℕ) → length ls ≤ i → get_elem? ls i ≡ none
+beyond [] i h = refl
+beyond (l ∷ ls) zero h = absurd (not-suc-le-zero h)
+beyond (l ∷ ls) (suc i) h = beyond ls i (le_of_suc-le-suc h)
+
+past : {i j : ℕ} → j < i → (i ≡ suc j → ⊥) → suc j < i
+past h n = omega (arith, h, n)
+
+pub layout_unknown : (k : ℕ) → (k ≡ 1 → ⊥) → (k ≡ 2 → ⊥) → (k ≡ 3 → ⊥) → (k ≡ 4 → ⊥) → (k ≡ 5 → ⊥) → (k ≡ 6 → ⊥) → (k ≡ 7 → ⊥) → (k ≡ 8 → ⊥)
+    → (k ≡ 9 → ⊥) → (k ≡ 10 → ⊥) → (k ≡ 11 → ⊥) → widths 0 0 0 0 ≡ widths_of (layout_of k)
+layout_unknown zero n1 n2 n3 n4 n5 n6 n7 n8 n9 n10 n11 = refl
+layout_unknown (suc i) n1 n2 n3 n4 n5 n6 n7 n8 n9 n10 n11 =
+    let positive : 0 < suc i = omega arith in
+    let over : 11 < suc i = past (past (past (past (past (past (past (past (past (past (past positive n1) n2) n3) n4) n5) n6) n7) n8) n9) n10) n11 in
+    ap widths_of (sym (beyond layouts i (omega (arith, over))))
 
 -- what the code asks of a kind, of the widths that it has
 pub none_is : (k : ℕ) (l : Layout) → l ≡ widths_of (layout_of k) → l.who ≡ 0 → layout_of k ≡ none

@@ -26,18 +26,16 @@ use line::{Line, small, word};
 use rules::answer::ACCEPTED;
 use rules::log::{ENTRIES, ENTRY, LOG};
 use std::io;
-use std::io::{BufWriter, Read, Write};
+use std::io::{Read, Write};
 use tables::{Event, Tables};
 
 const ADD: u32 = 1;
 
 // The script on standard input: its first 65536 bytes. A read or a write that fails ends it with that error.
-pub fn run(rt: &(impl Alloc + Input + Print)) -> io::Result<()> {
+pub fn run(rt: &(impl Input + Print)) -> io::Result<()> {
     let mut text = [0u8; 65536];
     let length = filled(&mut rt.reader(), &mut text)?;
-    let mut out = BufWriter::new(rt.alloc(), io::writer(rt))?;
-    lines(&mut out, &text[..length])?;
-    out.flush()
+    lines(&mut io::writer(rt), &text[..length])
 }
 
 // How much of the text was read: all of it, unless the input ended before.

@@ -1,12 +1,13 @@
 -- `lifecycle::add` meets its contract.
 -- Assumes nothing.
 use mathlib.Core.Path.{◌≡◌, ap, ap₂, ◌∙◌}
-use mathlib.Core.Bool.{not}
+use mathlib.Core.Bool.{not, true}
 use mathlib.Core.Logic.{◌⊎◌, inl, inr}
 use Prim.Native.Nat.{ℕ, ◌≤◌}
 use native.Mathlib.Nat.{suc-ne-zero}
 use native.Mathlib.Omega.{arith}
 use borrow.Author.Tests.{le-leb, lt-leb, not-false}
+use borrow.Author.Rules.{rules}
 use Rattle.bits.specs.Bit.{lowest}
 use Rattle.bits.proofs.Search.{first_le}
 use Rattle.rules.specs.Machine.{free, asleep, task_places, cpu_places, fifo, rr}
@@ -49,11 +50,12 @@ returns-then-not-in_range c =
 
 pub returns-then-not-fits : goal.returns-then-not-fits
 returns-then-not-fits c =
-    λ m kind n f l. (
+    λ m kind n f l.
+    let in_range : c.is_priority-in_range.result ≡ true = search rules in (
       passes_here _ _ _ 8 (lt-leb task_places c.args.who c.if-who-ge-PLACES.false)
           (passes_here _ _ _ 8 (ap not (is_in l free c.if-named-ne-FREE.false))
           (passes_here _ _ _ 8 (tested c.is_policy-known.ensures (ap not c.if-not-known.false))
-          (passes_here _ _ _ 8 (tested c.is_priority-in_range.ensures (ap not c.if-not-in_range.false))
+          (passes_here _ _ _ 8 (tested c.is_priority-in_range.ensures (ap not in_range))
           (fails_here _ _ _ (tested_mask c.args.k n c.mask_fits-fits.ensures (ap not c.if-not-fits.true)))))),
       suc-ne-zero 7,
     )

@@ -4,6 +4,7 @@ use mathlib.Core.Path.{◌≡◌, sym, ◌∙◌}
 use mathlib.Core.Bool.{true, false≢true}
 use mathlib.Core.List.{[]}
 use borrow.Author.Tests.{not-true, not-false}
+use borrow.Author.Rules.{rules}
 use Rattle.bits.proofs.Tests.{fails}
 use Rattle.levels.specs.Record.{lent_record}
 use Rattle.levels.specs.declared.record.Record.{Record}
@@ -78,9 +79,10 @@ returns c =
     let rows = c.rows_fit-placed in
     let columns = c.columns_fit in
     let fit : rows.result.fit ≡ true = not-false rows.result.fit c.if-not-placed.false in
+    let consistent : own.result ≡ true = search rules in
     decides columns.result (tables_fit n r s)
     (λ e.
     passes_fit n s c.requires.shape c.requires.rows_len c.requires.counts_len r c.requires.sized.levels rows.result.marks (yes rows.result.fit rows.ensures.says fit)
-    (rows.ensures.u_value fit) (yes columns.result columns.ensures e) (sym own.ensures ∙ c.if-not-is_consistent.false)
+    (rows.ensures.u_value fit) (yes columns.result columns.ensures e) (sym own.ensures ∙ consistent)
     (sym up.ensures ∙ c.if-not-mask_fits.false))
     (λ e. said columns.result columns.ensures (fit_columns n s c.requires.shape c.requires.rows_len c.requires.counts_len r e rows.result.marks (rows.ensures.u_value fit)))
