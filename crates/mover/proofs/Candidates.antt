@@ -469,8 +469,8 @@ module _ {m : Machine} {ps ms ks flat : List ℕ} (k : Looking m ps ms ks flat) 
         }
 
     -- this row's first waiting task alone, and nobody before
-    pub row_adds_one : t ≡ nothing → FirstAlone m l c → OnlyAbove m l (suc c) (get_or flat (c * task_places + 1) 0)
-    row_adds_one none alone =
+    pub row_adds_first : t ≡ nothing → FirstAlone m l c → OnlyAbove m l (suc c) (get_or flat (c * task_places + 1) 0)
+    row_adds_first none alone =
         record {
           waits = λ n. (c, omega arith, subst (λ (u : ℕ). In u (tail (row m c))) (sym first) (in_get_or (tail (row m c)) 0 (some_wait (length_tail (row m c)))));
           only = below_next c (λ (d : ℕ). (u : ℕ) → In u (tail (row m d)) → l < level_of (prio_of m u) → u ≡ get_or flat (c * task_places + 1) 0)
@@ -484,6 +484,10 @@ module _ {m : Machine} {ps ms ks flat : List ℕ} (k : Looking m ps ms ks flat) 
         some_wait : (length (row m c) ≡ suc (length (tail (row m c)))) ⊎ (row m c ≡ []) → 0 < length (tail (row m c))
         some_wait (inl s) = omega (arith, row_count c hc)
         some_wait (inr z) = absurd (let size : get_or ks c 0 ≡ length (row m c) = row_count c hc in let e : length (row m c) ≡ 0 = ap length z in let no : ⊥ = omega arith in no)
+
+    -- this row's one waiting task, and nobody before
+    pub row_adds_one : t ≡ nothing → get_or ks c 0 ≡ 2 → OnlyAbove m l (suc c) (get_or flat (c * task_places + 1) 0)
+    row_adds_one none is_two = row_adds_first none (none_second c hc is_two l)
 
   -- and then some rows in which nobody waits
   pub skip_only : (l c n r t : ℕ) → n ≡ m.n → NextWaiting ks c n r → OnlyAbove m l c t → OnlyAbove m l r t

@@ -2,7 +2,6 @@
 -- Assumes nothing.
 use mathlib.Core.Path.{◌≡◌, refl, sym, ◌∙◌, subst}
 use mathlib.Core.Bool.{true}
-use borrow.Author.Tests.{not-true, not-false}
 use Rattle.levels.specs.Record.{lent_record}
 use Rattle.levels.specs.declared.record.Record.{Record}
 use Rattle.cpupri.specs.Consistent.{Sized}
@@ -46,9 +45,9 @@ returns-then-not-lengths_fit c =
 pub load-requires : goal.load-requires
 unfolding record_lengths_fit
 load-requires c = record {
-      levels_value = fits (goal.at.load-requires c).Else-not-lengths_fit;
-      to_levels_value = refl;
-    }
+  levels_value = fits (goal.at.load-requires c).Else-not-lengths_fit;
+  to_levels_value = refl;
+}
 
 pub check_lent-requires : goal.check_lent-requires
 check_lent-requires c = subst Sized (sym c.load.ensures) (typed (goal.at.check_lent-requires c).Else-not-lengths_fit)

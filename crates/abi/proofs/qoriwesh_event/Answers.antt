@@ -2,7 +2,6 @@
 -- Assumes nothing.
 use mathlib.Core.Path.{◌≡◌, refl, sym, ◌∙◌, subst}
 use mathlib.Core.Bool.{true}
-use borrow.Author.Tests.{not-true, not-false}
 use Rattle.levels.specs.Record.{lent_record}
 use Rattle.levels.specs.declared.record.Record.{Record}
 use Rattle.cpupri.specs.Consistent.{Sized}
@@ -67,9 +66,9 @@ returns-then-not-lengths_fit c =
 pub load-requires : goal.load-requires
 unfolding record_lengths_fit
 load-requires c = record {
-      levels_value = fits (goal.at.load-requires c).Else-not-lengths_fit;
-      to_levels_value = refl;
-    }
+  levels_value = fits (goal.at.load-requires c).Else-not-lengths_fit;
+  to_levels_value = refl;
+}
 
 pub event_lent-o-requires : goal.event_lent-o-requires
 event_lent-o-requires c = subst Sized (sym c.load.ensures) (typed (goal.at.event_lent-o-requires c).Else-not-lengths_fit)

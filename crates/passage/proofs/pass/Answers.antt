@@ -1,20 +1,14 @@
 -- `passage::pass` meets its contract.
 -- Assumes nothing.
-use native.Mathlib.Omega.{arith}
 use borrow.Author.Tests.{not-true, not-false}
-use mathlib.Core.Path.{refl, sym, ◌∙◌}
-use mathlib.Core.List.{List}
-use Prim.Native.Nat.{ℕ}
+use mathlib.Core.Path.{refl}
 use Rattle.cpupri.specs.Record.{lent_record}
 use Rattle.levels.specs.Record.{lent_record}
-use Rattle.levels.specs.declared.record.Record.{Record}
 use Rattle.lenttables.specs.Lent.{lent}
-use Rattle.rules.specs.Tables.{Tables}
-use Rattle.recording.specs.declared.Course.{Course}
 use Rattle.recording.specs.Reading.{most_events, reading, ends}
-use Rattle.recording.specs.Replay.{Run, run}
+use Rattle.recording.specs.Replay.{Run}
 use Rattle.playing.proofs.Readiness.{ready_less}
-use Rattle.passage.proofs.Going.{Going, Lengths, going_start, going_on, going_nearer, gone, all_run, ready_lengths}
+use Rattle.passage.proofs.Going.{Lengths, going_start, going_on, going_nearer, gone, all_run, ready_lengths}
 use Rattle.passage.proofs.pass.Invariants.{built}
 use Rattle.passage.proofs.pass.Goals.{After-run_buf-course, At-loop-course, Start}
 use Rattle.passage.proofs.pass.Goals as goal

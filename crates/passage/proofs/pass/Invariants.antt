@@ -1,8 +1,5 @@
 -- `passage::pass` meets its contract.
 -- Assumes nothing.
-use native.Mathlib.Omega.{arith}
-use borrow.Author.Tests.{not-true, not-false}
-use mathlib.Core.Path.{refl, sym, ◌∙◌}
 use mathlib.Core.List.{List}
 use Prim.Native.Nat.{ℕ}
 use Rattle.cpupri.specs.Record.{lent_record}
@@ -11,10 +8,9 @@ use Rattle.levels.specs.declared.record.Record.{Record}
 use Rattle.lenttables.specs.Lent.{lent}
 use Rattle.rules.specs.Tables.{Tables}
 use Rattle.recording.specs.declared.Course.{Course}
-use Rattle.recording.specs.Reading.{most_events, reading, ends}
+use Rattle.recording.specs.Reading.{reading}
 use Rattle.recording.specs.Replay.{Run, run}
-use Rattle.playing.proofs.Readiness.{ready_less}
-use Rattle.passage.proofs.Going.{Going, Lengths, going_start, going_on, going_nearer, gone, all_run, ready_lengths}
+use Rattle.passage.proofs.Going.{Going}
 use Rattle.passage.proofs.pass.Given as goal
 
 -- a run, with what is carried along

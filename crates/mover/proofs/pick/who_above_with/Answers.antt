@@ -7,7 +7,7 @@ use native.Mathlib.Omega.{arith}
 use lib.Dec.{eqb}
 use lib.ListN.{length}
 use borrow.Author.Tests.{eqb-true, not-false}
-use Rattle.mover.proofs.Candidates.{row_fits, stored_small, stored_high, searchable, row_adds_none, row_adds_one}
+use Rattle.mover.proofs.Candidates.{row_fits, stored_small, stored_high, searchable, row_adds_none, row_adds_first}
 use Rattle.mover.proofs.pick.who_above_with.Goals.{Start}
 use Rattle.mover.proofs.pick.who_above_with.Goals as goal
 
@@ -37,7 +37,7 @@ pub returns : goal.returns
 returns c = λ m l h old same.
     let a = c.args in
     let no = both_false (not (eqb a.one 65535)) c.second_above.result same in
-    row_adds_one l a.level a.cpu h c.requires.1.2 a.one old (eqb-true a.one 65535 (not-false (eqb a.one 65535) no.0)) (c.second_above.ensures m l h no.1)
+    row_adds_first l a.level a.cpu h c.requires.1.2 a.one old (eqb-true a.one 65535 (not-false (eqb a.one 65535) no.0)) (c.second_above.ensures m l h no.1)
 
 pub bounds-rows-cpu : goal.bounds-rows-cpu
 bounds-rows-cpu c = let f = fits (goal.at.bounds-rows-cpu c).Start in omega arith
