@@ -11,7 +11,7 @@ use Rattle.cpupri.specs.Found.{size_fits}
 use Rattle.levels.specs.declared.record.Record.{Record}
 use Rattle.rules.specs.Machine.{task_places, cpu_places}
 use Rattle.rules.specs.Refusals.{bad_size}
-use Rattle.rules.specs.Tables.{Tables, lent, lengths_fit, machine_of}
+use Rattle.rules.specs.Tables.{Tables, lengths_fit, machine_of}
 use Rattle.rules.specs.WellFormed.{Shape, slice_fits}
 use Rattle.laws.proofs.Entry.{lengths_shape, shape_lengths}
 use Rattle.laws.proofs.Test.{size_good, slice_good}
