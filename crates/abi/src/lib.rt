@@ -12,11 +12,11 @@ ghost use Rattle.rules.specs.Entry.{result_of};
 ghost use Rattle.lentrecord.specs.Entry.{lent_checked, lent_handled, lent_found, answer};
 
 use checker::check::check_lent;
-use cpupri::find::{Found, find_in};
-use cpupri::record::{CPUS, LEVELS, Record, WORDS};
-use lentrecord::{lengths_fit, load, tell, write};
+use cpupri::find::find_in;
+use lentrecord::{EMPTY, lengths_fit, load, tell, write};
 use machine::event_lent;
-use rules::answer::BAD_SIZE;
+use plans::event::Event;
+use rules::answer::{ACCEPTED, Refusal};
 
 // 0 for a well-formed machine, 1 if n, the full slice or a length does not fit, 2 if it is not well-formed. Nothing
 // is written.
@@ -49,26 +49,17 @@ pub extern "C" fn qoriwesh_check(
         level_words.len(),
         levels.len(),
     ) {
-        return BAD_SIZE;
+        return Refusal::BadSize.number();
     }
-    let mut masks = [0u64; LEVELS];
-    let mut tallies = [0u8; LEVELS];
-    let mut words = [0u64; WORDS];
-    let mut places = [0u8; CPUS];
-    load(
-        level_masks,
-        level_counts,
-        level_words,
-        levels,
-        &mut masks,
-        &mut tallies,
-        &mut words,
-        &mut places,
+    let mut record = EMPTY;
+    load(level_masks, level_counts, level_words, levels, &mut record);
+    let checked = check_lent(
+        n, full, state, policy, prio, cpu, slice, mask, rows, counts, flags, online, log, &record,
     );
-    check_lent(
-        n, full, state, policy, prio, cpu, slice, mask, rows, counts, flags, online, log, &masks,
-        &tallies, &words, &places,
-    )
+    match checked {
+        Ok(()) => ACCEPTED,
+        Err(unfit) => unfit.number(),
+    }
 }
 
 // One event on any tables: 0 with the number of moves, or a refusal, 1 to 12, with 0 moves, which changes
@@ -120,55 +111,30 @@ pub extern "C" fn qoriwesh_event(
         level_words.len(),
         levels.len(),
     ) {
-        return BAD_SIZE;
+        return Refusal::BadSize.number();
     }
-    let mut masks = [0u64; LEVELS];
-    let mut tallies = [0u8; LEVELS];
-    let mut words = [0u64; WORDS];
-    let mut places = [0u8; CPUS];
-    load(
-        level_masks,
-        level_counts,
-        level_words,
-        levels,
-        &mut masks,
-        &mut tallies,
-        &mut words,
-        &mut places,
-    );
-    let o = event_lent(
-        n,
-        full,
-        state,
-        policy,
-        prio,
-        cpu,
-        slice,
-        mask,
-        rows,
-        counts,
-        flags,
-        online,
-        log,
-        &mut masks,
-        &mut tallies,
-        &mut words,
-        &mut places,
+    let mut record = EMPTY;
+    load(level_masks, level_counts, level_words, levels, &mut record);
+    let asked = Event {
         kind,
         who,
         a,
         b,
-        k,
-    );
-    *moves = o.moves;
-    let after = Record {
-        masks,
-        counts: tallies,
-        words,
-        levels: places,
+        mask: k,
     };
-    write(after, level_masks, level_counts, level_words, levels);
-    o.answer
+    let lent = &mut record;
+    let done = event_lent(
+        n, full, state, policy, prio, cpu, slice, mask, rows, counts, flags, online, log, lent,
+        asked,
+    );
+    write(&record, level_masks, level_counts, level_words, levels);
+    match done {
+        Ok(taken) => {
+            *moves = taken;
+            ACCEPTED
+        }
+        Err(refusal) => refusal.number(),
+    }
 }
 
 // The lowest level below `level` that has a CPU of `mask`, and those CPUs: 0 with that level and mask, or with 255 and 0 if there is none;
@@ -196,14 +162,9 @@ pub extern "C" fn qoriwesh_find<'a>(
         level_words.len(),
         levels.len(),
     ) {
-        return tell(
-            Found::Refused(BAD_SIZE),
-            found_level,
-            found_mask,
-            masks_read,
-        );
+        return tell(Err(Refusal::BadSize), found_level, found_mask, masks_read);
     }
-    let lowest = find_in(
+    let found = find_in(
         n,
         level_masks,
         level_counts,
@@ -212,5 +173,5 @@ pub extern "C" fn qoriwesh_find<'a>(
         level,
         mask,
     );
-    tell(lowest, found_level, found_mask, masks_read)
+    tell(found, found_level, found_mask, masks_read)
 }

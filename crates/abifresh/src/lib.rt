@@ -9,8 +9,9 @@ ghost use Rattle.rules.specs.Machine.{default_slice};
 ghost use Rattle.rules.specs.Entry.{result_of, handed_back};
 ghost use Rattle.lentrecord.specs.Entry.{lent_made};
 
-use lentrecord::{lengths_fit, read, write};
-use rules::answer::BAD_SIZE;
+use lentrecord::{EMPTY, lengths_fit, load, write};
+use maker::make_fresh_lent;
+use rules::answer::{ACCEPTED, Refusal};
 use rules::task::DEFAULT_SLICE;
 
 // A fresh machine of n CPUs, with a full slice of so many ticks, whatever the tables held: 0, or 1 if n, the full slice or
@@ -50,15 +51,22 @@ pub extern "C" fn qoriwesh_make_fresh(
         level_words.len(),
         levels.len(),
     ) {
-        return BAD_SIZE;
+        return Refusal::BadSize.number();
     }
-    let given = read(level_masks, level_counts, level_words, levels);
-    let made = maker::make_fresh(
-        n, full, state, policy, prio, cpu, slice, mask, rows, counts, flags, online, log, given,
+    let mut record = EMPTY;
+    load(level_masks, level_counts, level_words, levels, &mut record);
+    let lent = &mut record;
+    let made = make_fresh_lent(
+        n, full, state, policy, prio, cpu, slice, mask, rows, counts, flags, online, log, lent,
     );
-    *handed = made.full;
-    write(made.record, level_masks, level_counts, level_words, levels);
-    made.answer
+    write(&record, level_masks, level_counts, level_words, levels);
+    match made {
+        Ok(ticks) => {
+            *handed = ticks;
+            ACCEPTED
+        }
+        Err(refusal) => refusal.number(),
+    }
 }
 
 // The same, told no full slice: it has 25 ticks.

@@ -4,11 +4,8 @@
 ghost use Rattle.std.specs.Prelude.{◌≡◌, length, replicate};
 ghost use Rattle.rules.specs.Tables.{nothing};
 
-use fill::{fill_u8, fill_u16, fill_u64};
 use rules::task::FREE;
 use runqueue::row::NOTHING;
-
-pub mod fill;
 
 // All places free: 0 in all their columns.
 pub fn free_tasks(
@@ -26,12 +23,12 @@ pub fn free_tasks(
     ensures slice_value { slice.new ≡ replicate (length slice.old) 0 }
     ensures mask_value { mask.new ≡ replicate (length mask.old) 0 }
 {
-    fill_u8(state, FREE);
-    fill_u8(policy, 0);
-    fill_u8(prio, 0);
-    fill_u8(cpu, 0);
-    fill_u16(slice, 0);
-    fill_u64(mask, 0);
+    state.fill(FREE);
+    policy.fill(0);
+    prio.fill(0);
+    cpu.fill(0);
+    slice.fill(0);
+    mask.fill(0);
 }
 
 // No task stands in a row, no CPU has ordinary work, and no move is logged.
@@ -41,8 +38,8 @@ pub fn empty_rows(rows: &mut [u16], counts: &mut [u16], flags: &mut [u8], log: &
     ensures flags_value { flags.new ≡ replicate (length flags.old) 0 }
     ensures log_value { log.new ≡ replicate (length log.old) nothing }
 {
-    fill_u16(rows, NOTHING);
-    fill_u16(counts, 0);
-    fill_u8(flags, 0);
-    fill_u16(log, NOTHING);
+    rows.fill(NOTHING);
+    counts.fill(0);
+    flags.fill(0);
+    log.fill(NOTHING);
 }

@@ -8,6 +8,8 @@ use Prim.Native.Nat.{ℕ, ◌≤◌, ◌<◌}
 use native.Mathlib.Omega.{arith}
 use lib.ListN.{length, set, length-set}
 use lib.Seq.{get_or-set_same, get_or-set_other, set-get_or}
+use Rattle.std.specs.Prelude.{Option, None, Some, is_some, unwrap_or, option_map}
+use Rattle.plans.specs.declared.plan.Entry.{Entry}
 use Rattle.cpupri.specs.Record.{record_of, Whole}
 use Rattle.levels.specs.declared.record.Record.{Record}
 use Rattle.rules.specs.Lists.{In}
@@ -72,6 +74,25 @@ module _ (t : ℕ) (τ : Task) (m : Machine) where
   level_write (inl a) c =
       row_level_cong (prio_of (write t τ m)) (prio_of m) (idle_level m c) (row m c) (λ u i. get_or-set_other m.prio t u τ.prio 0 (in_other t m a c u i))
   level_write (inr e) c = ap (λ (ps : List ℕ). level (written ps) c) (same_prio e)
+
+-- ---- the CPU whose row a plan enters, as the code takes it out of the entry
+
+module _ {v : Option ℕ} (entry : Option Entry) (is : v ≡ option_map (λ e. e.target) entry) (A : Bool → ℕ → Type 0) where
+  pub given : A (is_some entry) (unwrap_or (option_map (λ (e : Entry). e.target) entry) 0) → A (is_some v) (unwrap_or v 0)
+  given h = subst (λ (o : Option ℕ). A (is_some o) (unwrap_or o 0)) (sym is) (go entry h)
+    where
+      go : (x : Option Entry) → A (is_some x) (unwrap_or (option_map (λ (e : Entry). e.target) x) 0)
+          → A (is_some (option_map (λ (e : Entry). e.target) x)) (unwrap_or (option_map (λ (e : Entry). e.target) x) 0)
+      go None h = h
+      go (Some e) h = h
+
+  pub taken : A (is_some v) (unwrap_or v 0) → A (is_some entry) (unwrap_or (option_map (λ (e : Entry). e.target) entry) 0)
+  taken h = go entry (subst (λ (o : Option ℕ). A (is_some o) (unwrap_or o 0)) is h)
+    where
+      go : (x : Option Entry) → A (is_some (option_map (λ (e : Entry). e.target) x)) (unwrap_or (option_map (λ (e : Entry). e.target) x) 0)
+          → A (is_some x) (unwrap_or (option_map (λ (e : Entry). e.target) x) 0)
+      go None h = h
+      go (Some e) h = h
 
 -- ---- a plan
 

@@ -10,7 +10,7 @@ use Rattle.rules.specs.Tables.{flat_of, row_counts}
 use Rattle.rules.specs.WellFormed.{WellFormed}
 use Rattle.plans.specs.Decided.{as_plan, Goable}
 use Rattle.plans.specs.declared.plan.Decision.{Decision}
-use Rattle.plans.specs.declared.plan.Decision.TheVariants.{Refused, Nothing, Place, Flag, Offline, Online}
+use Rattle.plans.specs.declared.plan.Decision.TheVariants.{Nothing, Place, Flag, Offline, Online}
 
 -- all tables but the log
 pub record Holds (m : Machine) (ss ps qs cs ls ks flat ns fs : List ℕ) (on : ℕ) (r : Record) : Type 0 where
@@ -29,7 +29,6 @@ pub record Holds (m : Machine) (ss ps qs cs ls ks flat ns fs : List ℕ) (on : �
 -- ---- what can be carried out
 
 abbrev pub Ready : Machine → Decision → Type 0
-Ready m (Refused a) = Unit {0}
 Ready m Nothing = Unit {0}
 Ready m (Place p) = Doable m (as_plan p)
 Ready m (Flag c b) = (c < m.n) × (b ≤ 1)

@@ -2,16 +2,15 @@
 #![tactic(auto)]
 
 ghost use Rattle.std.specs.Prelude.{◌≡◌, ℕ};
-ghost use Rattle.levels.specs.Record.{lent_record};
 ghost use Rattle.rules.specs.Machine.{Machine};
 ghost use Rattle.rules.specs.Events.{event};
 ghost use Rattle.effect.specs.Effected.{Lends, Effected};
 
-use cpupri::record::{CPUS, LEVELS, WORDS};
+use cpupri::record::Record;
 use deciding::read::task_at;
-use effect::{Effect, done, quiet, refused};
-use plans::plan::Decision;
+use hinting::hint::Candidates;
 use queueing::{reorder, shift, stay};
+use rules::answer::Refusal;
 
 // Kind 5: its priority is written, and it stays where it is or takes another place in its row.
 pub fn set_priority(
@@ -24,52 +23,37 @@ pub fn set_priority(
     rows: &mut [u16],
     counts: &[u16],
     flags: &[u8],
-    masks: &mut [u64; LEVELS],
-    tallies: &mut [u8; LEVELS],
-    words: &mut [u64; WORDS],
-    levels: &mut [u8; CPUS],
+    record: &mut Record,
     who: u32,
     b: u32,
-) -> Effect
-    requires { let r = lent_record masks.old tallies.old words.old levels.old in
-        ((m : Machine) × Lends m state.now policy.now prio.old cpu.now slice.now mask.now
-        rows.old counts.now flags.now m.online r) }
-    ensures { let r = lent_record masks.old tallies.old words.old levels.old in
-        let q = lent_record masks.new tallies.new words.new levels.new in
-        ((m : Machine) (a k : ℕ) → Lends m state.now policy.now prio.old cpu.now slice.now mask.now
-        rows.old counts.now flags.now m.online r →
+) -> Result<Candidates, Refusal>
+    requires { (m : Machine) × Lends m state.now policy.now prio.old cpu.now slice.now mask.now
+        rows.old counts.now flags.now m.online «record».old }
+    ensures { (m : Machine) (a k : ℕ) → Lends m state.now policy.now prio.old cpu.now slice.now mask.now
+        rows.old counts.now flags.now m.online «record».old →
         Effected m (event 5 who a b k) result state.now policy.now prio.new cpu.now slice.now mask.now
-        rows.new counts.now flags.now m.online q) }
+        rows.new counts.now flags.now m.online «record».new }
 {
     let named = task_at(state, policy, prio, cpu, slice, mask, who as usize);
-    match change::set_priority(named, who, b) {
-        Decision::Refused(number) => refused(number),
-        Decision::Place(plan) => {
-            let becomes = plan.becomes;
-            prio[plan.task as usize] = becomes.prio;
-            if !plan.enters {
-                return done(stay(
-                    state, prio, cpu, rows, counts, flags, masks, tallies, words, levels, plan.task,
-                ));
-            }
-            done(reorder(
-                state,
-                prio,
-                cpu,
-                rows,
-                counts,
-                flags,
-                masks,
-                tallies,
-                words,
-                levels,
-                plan.task,
-                plan.origin,
-                plan.front,
-            ))
-        }
-        _ => quiet(),
-    }
+    let Some(plan) = change::set_priority(named, who, b)? else {
+        return Ok(Candidates::NOBODY);
+    };
+    prio[plan.task as usize] = plan.becomes.prio;
+    let Some(entry) = plan.enters else {
+        return Ok(stay(state, prio, cpu, rows, counts, flags, record, plan.task));
+    };
+    Ok(reorder(
+        state,
+        prio,
+        cpu,
+        rows,
+        counts,
+        flags,
+        record,
+        plan.task,
+        entry.target,
+        entry.front,
+    ))
 }
 
 // Kind 6: its mask is written, and it stays where it is or goes to another row.
@@ -85,50 +69,33 @@ pub fn set_affinity(
     rows: &mut [u16],
     counts: &mut [u16],
     flags: &[u8],
-    masks: &mut [u64; LEVELS],
-    tallies: &mut [u8; LEVELS],
-    words: &mut [u64; WORDS],
-    levels: &mut [u8; CPUS],
+    record: &mut Record,
     who: u32,
     k: u64,
-) -> Effect
-    requires { let r = lent_record masks.old tallies.old words.old levels.old in
-        ((m : Machine) × (Lends m state.now policy.now prio.now cpu.old slice.now mask.old
-        rows.old counts.old flags.now online r × (n ≡ m.n))) }
-    ensures { let r = lent_record masks.old tallies.old words.old levels.old in
-        let q = lent_record masks.new tallies.new words.new levels.new in
-        ((m : Machine) (a b : ℕ) → Lends m state.now policy.now prio.now cpu.old slice.now mask.old
-        rows.old counts.old flags.now online r → n ≡ m.n →
+) -> Result<Candidates, Refusal>
+    requires { (m : Machine) × (Lends m state.now policy.now prio.now cpu.old slice.now mask.old
+        rows.old counts.old flags.now online «record».old × (n ≡ m.n)) }
+    ensures { (m : Machine) (a b : ℕ) → Lends m state.now policy.now prio.now cpu.old slice.now mask.old
+        rows.old counts.old flags.now online «record».old → n ≡ m.n →
         Effected m (event 6 who a b k) result state.now policy.now prio.now cpu.new slice.now mask.new
-        rows.new counts.new flags.now online q) }
+        rows.new counts.new flags.now online «record».new }
 {
     let named = task_at(state, policy, prio, cpu, slice, mask, who as usize);
-    match change::set_affinity(n, online, named, who, k) {
-        Decision::Refused(number) => refused(number),
-        Decision::Place(plan) => {
-            let becomes = plan.becomes;
-            mask[plan.task as usize] = becomes.mask;
-            if !plan.enters {
-                return done(stay(
-                    state, prio, cpu, rows, counts, flags, masks, tallies, words, levels, plan.task,
-                ));
-            }
-            done(shift(
-                state,
-                prio,
-                cpu,
-                rows,
-                counts,
-                flags,
-                masks,
-                tallies,
-                words,
-                levels,
-                plan.task,
-                plan.origin,
-                plan.target,
-            ))
-        }
-        _ => quiet(),
-    }
+    let plan = change::set_affinity(n, online, named, who, k)?;
+    mask[plan.task as usize] = plan.becomes.mask;
+    let Some(entry) = plan.enters else {
+        return Ok(stay(state, prio, cpu, rows, counts, flags, record, plan.task));
+    };
+    Ok(shift(
+        state,
+        prio,
+        cpu,
+        rows,
+        counts,
+        flags,
+        record,
+        plan.task,
+        named.cpu as usize,
+        entry.target,
+    ))
 }

@@ -1,55 +1,54 @@
 // The step that applies: of a given task, and where few can move.
 #![tactic(auto)]
 
-ghost use Rattle.std.specs.Prelude.{◌≡◌, ◌≢◌, ◌≤◌, ◌<◌, length, get_or};
-ghost use Rattle.rules.specs.Machine.{Machine, task_places, cpu_places, highest_priority};
+ghost use Rattle.std.specs.Prelude.{◌≡◌, IfSome, ◌≤◌, ◌<◌, length, get_or};
+ghost use Rattle.std.proofs.Math.Option.{some};
+ghost use Rattle.laws.specs.Limited.{Limited};
+ghost use Rattle.rules.specs.Machine.{Machine, task_places, highest_priority};
 ghost use Rattle.rules.specs.Migration.{next};
-ghost use Rattle.rules.specs.Tables.{nothing};
 ghost use Rattle.cpupri.specs.Found.{Marked};
-ghost use Rattle.hinting.specs.Hinted.{Among, Hinted};
-ghost use Rattle.choosing.specs.Choosing.{Choosing, Watching, Leads, step_of, step_by};
+ghost use Rattle.hinting.specs.Hinted.{Among, Hinted, ruled};
+ghost use Rattle.choosing.specs.Choosing.{Choosing, Watching, Leads, as_move, mover_of, step_by, step_if};
 
 use cpupri::find::lowest_level;
 use cpupri::level::Level;
-use cpupri::record::{CPUS, LEVELS, WORDS};
-use hinting::hint::{Candidates, Hint};
+use cpupri::record::{LEVELS, Record};
+use hinting::hint::Candidates;
 use movelog::Step;
-use mover::pick::{pick, who_above};
-use runqueue::row::NOTHING;
+use mover::pick::{Above, pick, who_above};
 use waiting::scan::Test;
 
 // A hint that says more, where nothing is known: nobody can move who is not above the lowest level of any CPU, so if at most one who waits
 // is, that task is the only candidate.
 pub fn sharpen(
-    hint: Hint,
+    hint: Option<Candidates>,
     n: usize,
     prio: &[u8],
     rows: &[u16],
     counts: &[u16],
-    masks: &[u64; LEVELS],
-    words: &[u64; WORDS],
-) -> Hint
-    requires { (m : Machine) × Watching m n prio.now counts.now rows.now masks.now words.now }
-    ensures { (m : Machine) → Watching m n prio.now counts.now rows.now masks.now words.now
+    record: &Record,
+) -> Option<Candidates>
+    requires { (m : Machine) × Watching m n prio.now counts.now rows.now «record».now }
+    ensures { (m : Machine) → Watching m n prio.now counts.now rows.now «record».now
         → Hinted m hint → Hinted m result }
 {
-    match hint {
-        Hint::Few { fallen, new } => Hint::Few { fallen, new },
-        Hint::Unknown => {
-            let lowest = lowest_level(masks, words, LEVELS, u64::MAX) as u8;
-            let above = who_above(lowest, n, prio, rows, counts);
-            if above.several {
-                return Hint::Unknown;
-            }
-            Hint::Few {
-                fallen: CPUS,
-                new: above.task,
-            }
-        }
+    if hint.is_some() {
+        return hint;
+    }
+    let Some(lowest) = lowest_level(&record.masks, &record.words, LEVELS, u64::MAX) else {
+        return Some(Candidates::NOBODY);
+    };
+    match who_above(lowest as u8, n, prio, rows, counts) {
+        Above::Nobody => Some(Candidates::NOBODY),
+        Above::One(task) => Some(Candidates {
+            fallen: None,
+            new: Some(task),
+        }),
+        Above::Several => None,
     }
 }
 
-// The step that applies on a machine of n CPUs, where few can move. Its task is 65535 if none does.
+// The step that applies on a machine of n CPUs, where few can move, if one does.
 pub fn choose(
     few: Candidates,
     n: usize,
@@ -58,20 +57,18 @@ pub fn choose(
     mask: &[u64],
     rows: &[u16],
     counts: &[u16],
-    masks: &[u64; LEVELS],
-    words: &[u64; WORDS],
-    levels: &[u8; CPUS],
-) -> Step
-    requires { (m : Machine) × (Choosing m n prio.now cpu.now mask.now counts.now rows.now masks.now words.now levels.now
+    record: &Record,
+) -> Option<Step>
+    requires { (m : Machine) × (Choosing m n prio.now cpu.now mask.now counts.now rows.now «record».now
         × Among m few) }
-    ensures { (m : Machine) → Choosing m n prio.now cpu.now mask.now counts.now rows.now masks.now words.now levels.now
-        → Among m few → step_of result ≡ next m }
+    ensures { (m : Machine) → Choosing m n prio.now cpu.now mask.now counts.now rows.now «record».now
+        → Among m few → as_move result ≡ next m }
 {
-    let task = foremost(few, n, prio, cpu, mask, rows, counts, masks, words, levels);
-    step_of(task, prio, cpu, mask, masks, words)
+    let task = foremost(few, n, prio, cpu, mask, rows, counts, record)?;
+    step_of(task, prio, cpu, mask, record)
 }
 
-// The mover; if there is none, 65535 or the one task that could have been it.
+// The mover; if there is none, none or the one task that could have been it.
 fn foremost(
     few: Candidates,
     n: usize,
@@ -80,88 +77,84 @@ fn foremost(
     mask: &[u64],
     rows: &[u16],
     counts: &[u16],
-    masks: &[u64; LEVELS],
-    words: &[u64; WORDS],
-    levels: &[u8; CPUS],
-) -> u16
-    requires { (m : Machine) × (Choosing m n prio.now cpu.now mask.now counts.now rows.now masks.now words.now levels.now
+    record: &Record,
+) -> Option<u16>
+    requires { (m : Machine) × (Choosing m n prio.now cpu.now mask.now counts.now rows.now «record».now
         × Among m few) }
-    ensures { (m : Machine) → Choosing m n prio.now cpu.now mask.now counts.now rows.now masks.now words.now levels.now
-        → Among m few → Leads m masks.now prio.now cpu.now mask.now result }
+    ensures { (m : Machine) → Choosing m n prio.now cpu.now mask.now counts.now rows.now «record».now
+        → Among m few → Leads m «record».now.masks prio.now cpu.now mask.now result }
 {
-    if CPUS <= few.fallen {
+    let Some(fallen) = few.fallen else {
         return few.new;
-    }
-    draw(few, n, prio, cpu, mask, rows, counts, masks, words, levels)
+    };
+    draw(fallen, few.new, n, prio, cpu, mask, rows, counts, record)
 }
 
-// The same where a CPU fell: the foremost of those that may use it and are above its level, and of the new task if that is movable.
+// The same where the CPU `fallen` fell: the foremost of those that may use it and are above its level, and of the new task if that is movable.
 fn draw(
-    few: Candidates,
+    fallen: usize,
+    new: Option<u16>,
     n: usize,
     prio: &[u8],
     cpu: &[u8],
     mask: &[u64],
     rows: &[u16],
     counts: &[u16],
-    masks: &[u64; LEVELS],
-    words: &[u64; WORDS],
-    levels: &[u8; CPUS],
-) -> u16
-    requires fallen_lt_cpu_places { few.fallen < cpu_places }
-    requires choosing { (m : Machine) × (Choosing m n prio.now cpu.now mask.now counts.now rows.now masks.now words.now levels.now
-        × Among m few) }
-    ensures { (m : Machine) → Choosing m n prio.now cpu.now mask.now counts.now rows.now masks.now words.now levels.now
-        → Among m few → Leads m masks.now prio.now cpu.now mask.now result }
+    record: &Record,
+) -> Option<u16>
+    requires { (m : Machine) × (Choosing m n prio.now cpu.now mask.now counts.now rows.now «record».now
+        × Limited m (some fallen) (ruled new)) }
+    ensures { (m : Machine) → Choosing m n prio.now cpu.now mask.now counts.now rows.now «record».now
+        → Limited m (some fallen) (ruled new) → Leads m «record».now.masks prio.now cpu.now mask.now result }
 {
-    let fallen = few.fallen;
-    let movable = step_of(few.new, prio, cpu, mask, masks, words).task;
+    let movable = if_movable(new, prio, cpu, mask, record);
     let test = Test::Drawn {
         cpu: fallen,
-        level: levels[fallen],
+        level: record.levels[fallen],
         new: movable,
     };
     // no level's CPUs are asked for by this test
-    pick(test, n, prio, mask, rows, counts, masks).task
+    let mover = pick(test, n, prio, mask, rows, counts, &record.masks)?;
+    Some(mover.task)
 }
 
-// The step of the task to one of its allowed CPUs of the lowest level, among equals the lowest-numbered; none if
-// the task is not movable, or 65535.
-pub fn step_of(
-    task: u16,
+// The new task, if it is movable.
+fn if_movable(
+    new: Option<u16>,
     prio: &[u8],
     cpu: &[u8],
     mask: &[u64],
-    masks: &[u64; LEVELS],
-    words: &[u64; WORDS],
-) -> Step
+    record: &Record,
+) -> Option<u16>
     requires prio_len { length prio.now ≡ task_places }
     requires cpu_len { length cpu.now ≡ task_places }
     requires mask_len { length mask.now ≡ task_places }
-    requires task_lt_task_places { task ≢ nothing → (task < task_places) × (get_or prio.now task 0 ≤ highest_priority) }
-    requires marked { Marked masks.now words.now }
-    ensures { step_of result ≡ step_by masks.now prio.now cpu.now mask.now task }
+    requires task { IfSome new (λ t. (t < task_places) × (get_or prio.now t 0 ≤ highest_priority)) }
+    requires marked { Marked «record».now.masks «record».now.words }
+    ensures { ruled result ≡ mover_of (step_if «record».now.masks prio.now cpu.now mask.now new) }
 {
-    let none = Step {
-        task: NOTHING,
-        origin: 0,
-        target: 0,
-        displaced: 0,
-    };
-    if task == NOTHING {
-        return none;
-    }
+    let step = step_of(new?, prio, cpu, mask, record)?;
+    Some(step.task)
+}
+
+// The step of the task to one of its allowed CPUs of the lowest level, among equals the lowest-numbered; none if
+// the task is not movable.
+pub fn step_of(task: u16, prio: &[u8], cpu: &[u8], mask: &[u64], record: &Record) -> Option<Step>
+    requires prio_len { length prio.now ≡ task_places }
+    requires cpu_len { length cpu.now ≡ task_places }
+    requires mask_len { length mask.now ≡ task_places }
+    requires task { (task < task_places) × (get_or prio.now task 0 ≤ highest_priority) }
+    requires marked { Marked «record».now.masks «record».now.words }
+    ensures { as_move result ≡ step_by «record».now.masks prio.now cpu.now mask.now task }
+{
     let at = task as usize;
     let below = Level::of_priority(prio[at]).number as usize;
     let allowed = mask[at];
-    let level = lowest_level(masks, words, below, allowed);
-    if below <= level {
-        return none;
-    }
-    Step {
+    let level = lowest_level(&record.masks, &record.words, below, allowed)?;
+    Some(Step {
         task,
         origin: cpu[at] as usize,
-        target: bits::lowest_bit(masks[level] & allowed) as usize,
+        target: bits::lowest_bit(record.masks[level] & allowed) as usize,
         displaced: level as u8,
-    }
+    })
 }

@@ -14,7 +14,6 @@ ghost use Rattle.consistency.specs.Gathered.{cpu_bit, Gathered, Gathers};
 use levels::level::Level;
 use levels::record::{CPUS, LEVELS, WORDS};
 use whole::compare::{each_invalid, none_u64, same_u64};
-use whole::copy::copy_u64;
 use whole::eights::{alike, all_invalid, same_u8};
 
 // From here on eight places are left.
@@ -33,7 +32,7 @@ pub fn is_consistent<'a>(
 {
     let unused = Level::UNUSED.number as usize;
     let mut left = [0; LEVELS];
-    copy_u64(masks, &mut left);
+    left.copy_from_slice(masks);
     let mut right_counts = [0; LEVELS];
     let mut right_words = [0; WORDS];
     if !gather(
@@ -73,6 +72,7 @@ fn absent(n: usize, levels: &[u8]) -> bool
 }
 
 // The pass over the CPUs below `end`: eight at a time, and the rest one by one. Whether each is at a level or at INVALID.
+// What it writes is lent as three tables: as fields of one struct the two words would not stay in registers.
 fn gather(
     end: usize,
     from: &[u8],
@@ -85,16 +85,15 @@ fn gather(
     requires gathered { Gathered from.now 0 counts.old words.old }
     ensures { Gathers from.now 0 end result left.old left.new counts.new words.new }
 {
+    let rest = end - end % 8;
     let mut cpus = 1;
-    let mut cpu = 0;
-    while cpu + 8 <= end {
+    for cpu in (0..rest).step_by(8) {
         if !block(cpu, cpus, from, left, counts, words) {
             return false;
         }
-        cpus = cpus << 8;
-        cpu += 8;
+        cpus <<= 8;
     }
-    each(cpu, end, cpus, from, left, counts, words)
+    each(rest, end, cpus, from, left, counts, words)
 }
 
 // The pass over eight CPUs, the first of them with its bit: idle ones often stand together.
@@ -121,25 +120,22 @@ fn block(
 fn each(
     start: usize,
     end: usize,
-    first: u64,
+    mut cpus: u64,
     from: &[u8],
     left: &mut [u64; LEVELS],
     counts: &mut [u8; LEVELS],
     words: &mut [u64; WORDS],
 ) -> bool
     requires from_len { length from.now ≡ cpu_places }
-    requires start_le_end { (start ≤ end) × (end ≤ cpu_places) × (first ≡ cpu_bit start) }
+    requires start_le_end { (start ≤ end) × (end ≤ cpu_places) × (cpus ≡ cpu_bit start) }
     requires gathered { Gathered from.now start counts.old words.old }
     ensures { Gathers from.now start end result left.old left.new counts.new words.new }
 {
-    let mut cpus = first;
-    let mut cpu = start;
-    while cpu < end {
+    for cpu in start..end {
         if !take(cpu, cpus, 1, from, left, counts, words) {
             return false;
         }
-        cpus = cpus << 1;
-        cpu += 1;
+        cpus <<= 1;
     }
     true
 }
@@ -157,18 +153,17 @@ fn take(
 ) -> bool
     requires from_len { length from.now ≡ cpu_places }
     requires le_more { (1 ≤ more) × (cpu + more ≤ cpu_places) × (cpus + 2 ^ cpu ≡ 2 ^ (cpu + more)) }
-    requires by_index { (i : ℕ) → i < more → slice_index from.now (cpu + i) ≡ slice_index from.now cpu }
+    requires alike { (i : ℕ) → i < more → slice_index from.now (cpu + i) ≡ slice_index from.now cpu }
     requires gathered { Gathered from.now cpu counts.old words.old }
     ensures { Gathers from.now cpu (cpu + more) result left.old left.new counts.new words.new }
 {
-    let invalid = Level::INVALID;
     let level = from[cpu];
-    if (LEVELS as u8) <= level {
-        return level == invalid.number;
+    if LEVELS as u8 <= level {
+        return level == Level::INVALID.number;
     }
     let l = level as usize;
-    left[l] = std::num::wrapping_sub_u64(left[l], cpus);
-    counts[l] = counts[l] + more;
+    left[l] = left[l].wrapping_sub(cpus);
+    counts[l] += more;
     mark(words, l);
     true
 }

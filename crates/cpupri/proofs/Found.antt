@@ -1,10 +1,10 @@
 -- What the lowest-priority search finds: a level exactly if some allowed CPU has a lower one than was asked, and then the lowest set bit of the
 -- mask is the lowest-numbered allowed CPU of the lowest level.
 -- Assumes nothing.
-use mathlib.Core.Path.{◌≡◌, refl, sym, ap, ◌∙◌}
+use mathlib.Core.Path.{◌≡◌, refl, sym, ap, ◌∙◌, subst}
 use mathlib.Core.Bool.{Bool, true, false, not, cond, ◌&&◌, false≢true}
 use mathlib.Core.List.{List}
-use Prim.Native.Nat.{ℕ, suc, ◌^◌, ◌≤◌, ◌<◌}
+use Prim.Native.Nat.{ℕ, ◌^◌, ◌≤◌, ◌<◌}
 use native.Mathlib.Nat.{lt_of_le_of_lt, le_trans, le_of_eq}
 use native.Mathlib.Omega.{arith}
 use lib.Bits.{and_le_r}
@@ -17,8 +17,9 @@ use Rattle.bits.proofs.Word.{bit_of_and, bit_of_zero}
 use Rattle.bits.proofs.Search.{first_le, first_holds, first_at_most, lowest_bit, lowest_lt, lowest_at_most}
 use Rattle.levels.specs.Level.{level_count, cpu_places}
 use Rattle.levels.specs.Record.{masks_of}
-use Rattle.cpupri.specs.Found.{allowed_at, any_at, lowest_level, occupied_below, lowest_found}
-use Rattle.cpupri.specs.declared.find.Found.TheVariants.{Cpus, Nothing}
+use Rattle.std.specs.Prelude.{None, Some}
+use Rattle.std.proofs.lemmas.Option.{none-some, same_Some}
+use Rattle.cpupri.specs.Found.{allowed_at, any_at, lowest_level, lowest_below, found_at, found_nothing, lowest_found}
 use Rattle.levels.proofs.Moved.{mask_at_lem}
 use Rattle.consistency.proofs.Agrees.{mask_bit}
 
@@ -111,16 +112,42 @@ pub lowest_most : (masks : List ℕ) (below mask : ℕ) → lowest_level masks b
 unfolding lowest_level
 lowest_most masks below mask = first_le (any_at masks mask) below
 
--- a level that is found comes with its allowed CPUs and the number of masks read
-pub finds : (masks : List ℕ) (below mask : ℕ) → lowest_level masks below mask < below
-    → lowest_found masks below mask ≡ let l = lowest_level masks below mask in Cpus l (allowed_at masks mask l) (occupied_below masks (suc l))
-unfolding lowest_found
-finds masks below mask h =
-    let l = lowest_level masks below mask in
-    ap (λ (b : Bool). cond b (Cpus l (allowed_at masks mask l) (occupied_below masks (suc l))) (Nothing (occupied_below masks below))) (lt-ltb l below h)
+module _ (masks : List ℕ) (below mask : ℕ) where
+  abbrev lowest_here : ℕ
+  lowest_here = lowest_level masks below mask
 
-pub finds_nothing : (masks : List ℕ) (below mask : ℕ) → below ≤ lowest_level masks below mask → lowest_found masks below mask ≡ Nothing (occupied_below masks below)
-unfolding lowest_found
-finds_nothing masks below mask h =
-    let l = lowest_level masks below mask in
-    ap (λ (b : Bool). cond b (Cpus l (allowed_at masks mask l) (occupied_below masks (suc l))) (Nothing (occupied_below masks below))) (le-ltb l below h)
+  -- the lowest level as an option
+  pub below_some : lowest_here < below → lowest_below masks below mask ≡ Some lowest_here
+  unfolding lowest_below
+  below_some h = ap (λ (b : Bool). cond b (Some lowest_here) None) (lt-ltb lowest_here below h)
+
+  pub below_none : below ≤ lowest_here → lowest_below masks below mask ≡ None
+  unfolding lowest_below
+  below_none h = ap (λ (b : Bool). cond b (Some lowest_here) None) (le-ltb lowest_here below h)
+
+  -- and back
+  pub some_below : {l : ℕ} → lowest_below masks below mask ≡ Some l → (l ≡ lowest_here) × (lowest_here < below)
+  some_below {l} e = go (ltb lowest_here below) refl
+    where
+      go : (b : Bool) → ltb lowest_here below ≡ b → (l ≡ lowest_here) × (lowest_here < below)
+      go true q = let h = ltb-true lowest_here below q in (sym (same_Some lowest_here l (sym (below_some h) ∙ e)), h)
+      go false q = absurd (none-some l (sym (below_none (ltb-false lowest_here below q)) ∙ e))
+
+  pub some_under : {l : ℕ} → lowest_below masks below mask ≡ Some l → l < below
+  some_under e = let is = some_below e in subst (λ (i : ℕ). i < below) (sym is.0) is.1
+
+  pub none_below : lowest_below masks below mask ≡ None → below ≤ lowest_here
+  none_below e = go (ltb lowest_here below) refl
+    where
+      go : (b : Bool) → ltb lowest_here below ≡ b → below ≤ lowest_here
+      go true q = absurd (none-some lowest_here (sym e ∙ below_some (ltb-true lowest_here below q)))
+      go false q = ltb-false lowest_here below q
+
+  -- a level that is found comes with its allowed CPUs and the number of masks read
+  pub finds : lowest_here < below → lowest_found masks below mask ≡ found_at masks mask lowest_here
+  unfolding lowest_found
+  finds h = ap (λ (b : Bool). cond b (found_at masks mask lowest_here) (found_nothing masks below)) (lt-ltb lowest_here below h)
+
+  pub finds_nothing : below ≤ lowest_here → lowest_found masks below mask ≡ found_nothing masks below
+  unfolding lowest_found
+  finds_nothing h = ap (λ (b : Bool). cond b (found_at masks mask lowest_here) (found_nothing masks below)) (le-ltb lowest_here below h)

@@ -5,6 +5,7 @@ use mathlib.Core.Path.{◌≡◌, refl, sym, ap, ap₂, ◌∙◌, subst}
 use mathlib.Core.Bool.{Bool, true, false, not, false≢true}
 use mathlib.Core.List.{List}
 use Prim.Native.Nat.{ℕ, ◌+◌, ◌-◌, ◌/◌, ◌%◌, ◌^◌, ◌≤◌, ◌<◌}
+use native.Mathlib.Nat.{le_of_eq}
 use native.Mathlib.Omega.{arith}
 use lib.Bits.{bit_and, and_zero_l}
 use lib.Dec.{eqb, ltb}
@@ -20,8 +21,10 @@ use Rattle.levels.specs.declared.record.Record.{Record}
 use Rattle.levels.proofs.Moved.{mask_at_lem, count_at_lem}
 use Rattle.levels.proofs.Whole.{active_is, masks_are, words_are}
 use Rattle.consistency.proofs.Words.{words_bit}
-use Rattle.cpupri.specs.Found.{allowed_at, any_at, lowest_level, occupied, occupied_below, marked, Marked}
-use Rattle.cpupri.specs.Search.{Passed, LowestIn}
+use Rattle.std.specs.Prelude.{Option, None, Some, MatchOption}
+use Rattle.cpupri.specs.Found.{allowed_at, any_at, lowest_level, lowest_below, occupied, occupied_below, marked, Marked}
+use Rattle.cpupri.specs.Search.{Passed, LowestIn, NoneIn}
+use Rattle.cpupri.proofs.Found.{below_some, below_none}
 
 -- ---- the words of a record
 
@@ -104,53 +107,53 @@ module _ (masks : List ℕ) (mask base below : ℕ) where
 
   module _ (word : ℕ) (g : Going word) where
     -- no bit is left
-    pub none_left : word ≡ 0 → LowestIn masks mask base below below
-    none_left z =
-        record {
-          most = omega arith;
-          some = λ l. absurd (let no : ⊥ = omega arith in no);
-          none = none_below word below (omega arith) g (λ c hc l. ap (λ (w : ℕ). bit w c) z ∙ bit_of_zero c);
-        }
+    pub none_left : word ≡ 0 → NoneIn masks mask base below
+    none_left z = none_below word below (omega arith) g (λ c hc l. ap (λ (w : ℕ). bit w c) z ∙ bit_of_zero c)
 
     -- the lowest bit's level has a CPU of the mask
     pub one_in : lowest 64 word < 64 → base + lowest 64 word < below → any_at masks mask (base + lowest 64 word) ≡ true → LowestIn masks mask base below (base + lowest 64 word)
-    one_in small here any =
-        record {
-          most = omega arith;
-          some = λ l. (omega arith, any);
-          none = none_below word (base + lowest 64 word) (omega arith) g (λ c hc l. before_lowest word c (omega arith));
-        }
+    one_in small here any = record {
+      under = here;
+      within = omega arith;
+      some = any;
+      least = λ k low h.
+          none_below word (base + lowest 64 word) (omega arith) g (λ c hc l. before_lowest word c (omega arith)) k low (omega arith) h;
+    }
 
 -- ---- both words
 
-module _ (masks : List ℕ) (mask below : ℕ) (most : below ≤ level_count) where
-  lowest_of : (l : ℕ) → l ≤ below → (l < below → any_at masks mask l ≡ true) → ((k : ℕ) → k < l → any_at masks mask k ≡ false) → l ≡ lowest_level masks below mask
+module _ (masks : List ℕ) (mask below : ℕ) where
+  some_is : (l : ℕ) → l < below → any_at masks mask l ≡ true → ((k : ℕ) → k < l → any_at masks mask k ≡ false) → Some l ≡ lowest_below masks below mask
   unfolding lowest_level
-  lowest_of l le any none = go (ltb l below) refl
-    where
-      go : (b : Bool) → ltb l below ≡ b → l ≡ lowest_level masks below mask
-      go true e = let h : l < below = ltb-true l below e in sym (first_is (any_at masks mask) below l h (any h) none)
-      go false e =
-          let h : below ≤ l = ltb-false l below e in
-          let is : l ≡ below = omega arith in
-          is ∙ sym (first_none (any_at masks mask) below (λ d q. none d (omega arith)))
+  some_is l h any least =
+      let is : lowest_level masks below mask ≡ l = first_is (any_at masks mask) below l h any least in
+      ap Some (sym is) ∙ sym (below_some masks below mask (subst (λ (i : ℕ). i < below) (sym is) h))
 
-  module _ (l : ℕ) (low : LowestIn masks mask 0 below l) where
-    -- in the first word
-    pub lowest_low : l < 64 → l ≡ lowest_level masks below mask
-    lowest_low h = lowest_of l low.most (λ q. (low.some q).1) (λ k q. low.none k (omega arith) (omega arith) q)
+  none_is : ((k : ℕ) → k < below → any_at masks mask k ≡ false) → None ≡ lowest_below masks below mask
+  unfolding lowest_level
+  none_is none = sym (below_none masks below mask (le_of_eq (sym (first_none (any_at masks mask) below none))))
 
+  -- in the first word
+  pub lowest_low : (l : ℕ) → LowestIn masks mask 0 below l → Some l ≡ lowest_below masks below mask
+  lowest_low l low = some_is l low.under low.some (λ k h. low.least k (omega arith) h)
+
+  module _ (low : NoneIn masks mask 0 below) where
     -- not there, and the second has no level below
-    pub lowest_out : 64 ≤ l → below ≤ 64 → below ≡ lowest_level masks below mask
-    lowest_out h s = lowest_of below (omega arith) (λ q. absurd (let no : ⊥ = omega arith in no)) (λ k q. low.none k (omega arith) (omega arith) (omega arith))
+    pub lowest_out : below ≤ 64 → None ≡ lowest_below masks below mask
+    lowest_out h = none_is (λ k q. low k (omega arith) (omega arith) q)
 
     -- in the second
-    pub lowest_high : 64 ≤ l → (i : ℕ) → LowestIn masks mask 64 below i → i ≡ lowest_level masks below mask
-    lowest_high h i high = lowest_of i high.most (λ q. (high.some q).1) (λ k q. go k q (ltb k 64) refl)
+    pub lowest_high : below ≤ level_count → (o : Option ℕ) → MatchOption o (NoneIn masks mask 64 below) (λ l. LowestIn masks mask 64 below l) → o ≡ lowest_below masks below mask
+    lowest_high most None high = none_is (λ k q. go k q (ltb k 64) refl)
       where
-        go : (k : ℕ) → k < i → (b : Bool) → ltb k 64 ≡ b → any_at masks mask k ≡ false
-        go k q true e = let s : k < 64 = ltb-true k 64 e in low.none k (omega arith) (omega arith) (omega arith)
-        go k q false e = let s : 64 ≤ k = ltb-false k 64 e in high.none k s (omega (arith, high.most)) q
+        go : (k : ℕ) → k < below → (b : Bool) → ltb k 64 ≡ b → any_at masks mask k ≡ false
+        go k q true e = let s : k < 64 = ltb-true k 64 e in low k (omega arith) (omega arith) q
+        go k q false e = let s : 64 ≤ k = ltb-false k 64 e in high k s (omega arith) q
+    lowest_high most (Some l) high = some_is l high.under high.some (λ k q. go k q (ltb k 64) refl)
+      where
+        go : (k : ℕ) → k < l → (b : Bool) → ltb k 64 ≡ b → any_at masks mask k ≡ false
+        go k q true e = let s : k < 64 = ltb-true k 64 e in low k (omega arith) (omega arith) (omega (arith, high.under))
+        go k q false e = let s : 64 ≤ k = ltb-false k 64 e in high.least k s q
 
 -- a level that is not marked has no CPU
 module _ (masks words : List ℕ) (mask : ℕ) (m : Marked masks words) where

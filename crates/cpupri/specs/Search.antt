@@ -9,8 +9,13 @@ use Rattle.cpupri.specs.Found.{any_at}
 abbrev pub Passed : List ℕ → ℕ → ℕ → ℕ → Type 0
 Passed masks mask base active = (c : ℕ) → c < 64 → base + c < level_count → bit active c ≡ false → any_at masks mask (base + c) ≡ false
 
--- l is the lowest of the word's levels below `below` that has a CPU of the mask, or `below` if there is none
+-- l is the lowest of the word's levels below `below` that has a CPU of the mask
 pub record LowestIn (masks : List ℕ) (mask base below l : ℕ) : Type 0 where
-  pub most : l ≤ below
-  pub some : l < below → (l < base + 64) × (any_at masks mask l ≡ true)
-  pub none : (k : ℕ) → base ≤ k → k < base + 64 → k < l → any_at masks mask k ≡ false
+  pub under : l < below
+  pub within : l < base + 64
+  pub some : any_at masks mask l ≡ true
+  pub least : (k : ℕ) → base ≤ k → k < l → any_at masks mask k ≡ false
+
+-- none of the word's levels below `below` has one
+abbrev pub NoneIn : List ℕ → ℕ → ℕ → ℕ → Type 0
+NoneIn masks mask base below = (k : ℕ) → base ≤ k → k < base + 64 → k < below → any_at masks mask k ≡ false

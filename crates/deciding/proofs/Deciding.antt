@@ -6,33 +6,39 @@ use mathlib.Core.Logic.{◌≢◌, ◌⊎◌, inl, inr}
 use mathlib.Core.List.{List, [], ◌∷◌}
 use mathlib.Core.Option.{Option, none, some}
 use Prim.Native.Nat.{ℕ, suc, ◌<◌}
-use native.Mathlib.Nat.{suc-ne-zero}
 use native.Mathlib.Omega.{arith}
 use lib.ListN.{length}
 use Rattle.rules.specs.Machine.{Machine, task_places}
-use Rattle.rules.specs.Events.{Event, Kind, kind_of, by_kind, effect_of}
-use Rattle.rules.specs.Refusals.{first_failing, no_kind, checks, unknown_kind}
+use Rattle.rules.specs.Events.{Event, Kind, kind_of, by_kind, effect, effect_of}
+use Rattle.std.specs.Prelude.{Result, Err}
+use Rattle.rules.specs.Refusals.{refusal, first_failing, no_kind, checks}
+use Rattle.rules.specs.declared.answer.Refusal.{Refusal}
+use Rattle.rules.specs.declared.answer.Refusal.TheVariants.{UnknownKind}
 use Rattle.laws.proofs.Lists.{same?}
 use Rattle.laws.proofs.Checks.{no_kind_lem}
-use Rattle.plans.specs.Decided.{as_task, Named, strands, Decided, DecidedAs}
+use Rattle.plans.specs.Decided.{as_task, Named, strands, Judged, Does, DecidedAs}
 use Rattle.stranding.specs.Stranding.{strands_by}
 use Rattle.deciding.specs.Subject.{entries, Lent, Decides}
 use Rattle.plans.specs.declared.plan.Task.{Task as Columns}
 use Rattle.plans.specs.declared.plan.Decision.{Decision}
-use Rattle.plans.specs.declared.plan.Decision.TheVariants.{Refused}
 
 -- ---- kinds by their numbers
 
 module _ (m : Machine) (e : Event) where
-  pub by_kind_lem : (k : Kind) (d : Decision) → kind_of e.kind ≡ some k → DecidedAs k m e d → Decides m e d
-  unfolding Decides
-  by_kind_lem k d named h =
-      subst (λ (o : Option Kind). Decided (first_failing (by_kind (no_kind ∷ []) (checks m e) o)) (by_kind m (λ (j : Kind). effect_of j e m) o) m d)
+  -- what is judged as of its kind is judged as of the event, whatever P says of what is accepted
+  pub judged_by_kind : {A : Type 0} (P : Machine → A → Type 0) (k : Kind) (d : Result A Refusal) → kind_of e.kind ≡ some k
+      → Judged (first_failing (checks m e k)) (P (effect_of k e m)) d → Judged (refusal m e) (P (effect e m)) d
+  judged_by_kind P k d named h =
+      subst (λ (o : Option Kind). Judged (first_failing (by_kind (no_kind ∷ []) (checks m e) o)) (P (by_kind m (λ (j : Kind). effect_of j e m) o)) d)
       (sym named) h
 
-  pub unknown : kind_of e.kind ≡ none → Decides m e (Refused unknown_kind)
+  pub by_kind_lem : (k : Kind) (d : Result Decision Refusal) → kind_of e.kind ≡ some k → DecidedAs k m e d → Decides m e d
+  unfolding Decides
+  by_kind_lem k d named h = judged_by_kind (λ done d. Does done m d) k d named h
+
+  pub unknown : kind_of e.kind ≡ none → Decides m e (Err UnknownKind)
   unfolding Decides first_failing
-  unknown named = (sym (ap (λ (o : Option Kind). first_failing (by_kind (no_kind ∷ []) (checks m e) o)) named), suc-ne-zero 2)
+  unknown named = sym (ap (λ (o : Option Kind). first_failing (by_kind (no_kind ∷ []) (checks m e) o)) named)
 
 further : (k j : ℕ) → j < k → k ≢ suc j → suc j < k
 further k j h n = omega arith

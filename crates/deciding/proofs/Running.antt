@@ -9,12 +9,12 @@ use native.Mathlib.Omega.{arith}
 use lib.ListN.{length, get_or, get_or-eq_default}
 use Rattle.cpupri.specs.Record.{record_of}
 use Rattle.rules.specs.Machine.{Machine, row, levels, task_places}
-use Rattle.rules.specs.Tables.{nothing}
 use Rattle.runqueue.specs.Table.{HoldsRows, row_at}
 use Rattle.runqueue.proofs.Flat.{count_is, first_place, rows_fit}
 use Rattle.placement.specs.Held.{Held}
 use Rattle.placement.proofs.Order.{well_formed_order, holds, read_row, cpus_counted}
-use Rattle.plans.specs.Decided.{first_of}
+use Rattle.std.specs.Prelude.{Some, None}
+use Rattle.percpu.specs.Running.{first_of}
 use Rattle.deciding.specs.Subject.{LentRows}
 
 module _ {m : Machine} {n : ℕ} {flat ns : List ℕ} (l : LentRows m n flat ns) where
@@ -34,22 +34,22 @@ module _ {m : Machine} {n : ℕ} {flat ns : List ℕ} (l : LentRows m n flat ns)
     row_is : row_at ns flat c ≡ row m c
     row_is = read_row m m.prio ns flat (record_of (levels m)) held c
 
-    pub none_runs : get_or ns c 0 ≡ 0 → nothing ≡ first_of (row m c)
+    pub none_runs : get_or ns c 0 ≡ 0 → None ≡ first_of (row m c)
     none_runs e = go (row m c) (ap length (sym row_is) ∙ sym (count_is ns flat hold c here) ∙ e)
       where
-        go : (r : List ℕ) → length r ≡ 0 → nothing ≡ first_of r
+        go : (r : List ℕ) → length r ≡ 0 → None ≡ first_of r
         go [] e = refl
         go (u ∷ us) e = absurd (suc-ne-zero (length us) e)
 
-    pub one_runs : get_or ns c 0 ≢ 0 → get_or flat (c * task_places) 0 ≡ first_of (row m c)
+    pub one_runs : get_or ns c 0 ≢ 0 → Some (get_or flat (c * task_places) 0) ≡ first_of (row m c)
     one_runs n = go (row_at ns flat c) refl ∙ ap first_of row_is
       where
-        go : (r : List ℕ) → row_at ns flat c ≡ r → get_or flat (c * task_places) 0 ≡ first_of (row_at ns flat c)
+        go : (r : List ℕ) → row_at ns flat c ≡ r → Some (get_or flat (c * task_places) 0) ≡ first_of (row_at ns flat c)
         go [] e = absurd (n (count_is ns flat hold c here ∙ ap length e))
-        go (u ∷ us) e = first_place ns flat hold c here u us e ∙ ap first_of (sym e)
+        go (u ∷ us) e = ap Some (first_place ns flat hold c here u us e) ∙ ap first_of (sym e)
 
     pub place_in : c * task_places < length flat
     place_in = let f : task_places * c + task_places ≤ length flat = rows_fit ns flat hold c here in omega arith
 
-  pub no_cpu_lem : (c : ℕ) → n ≤ c → nothing ≡ first_of (row m c)
+  pub no_cpu_lem : (c : ℕ) → n ≤ c → None ≡ first_of (row m c)
   no_cpu_lem c h = sym (ap first_of (get_or-eq_default m.rows [] (omega (arith, l.formed.shape.rows, l.cpus))))

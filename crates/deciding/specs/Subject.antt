@@ -1,11 +1,12 @@
 -- What an event is decided from, and the right decision.
 -- Assumes nothing.
-use Rattle.std.specs.Prelude.{◌≡◌, Bool, ◌≢◌, List, ℕ, get_or}
+use Rattle.std.specs.Prelude.{◌≡◌, Bool, ◌≢◌, Result, List, ℕ, get_or}
 use Rattle.rules.specs.Machine.{Machine, Task}
 use Rattle.rules.specs.Tables.{flat_of, row_counts}
 use Rattle.rules.specs.WellFormed.{WellFormed}
 use Rattle.rules.specs.Events.{Event, effect}
 use Rattle.rules.specs.Refusals.{refusal}
+use Rattle.rules.specs.declared.answer.Refusal.{Refusal}
 use Rattle.plans.specs.Decided.{Decided}
 use Rattle.stranding.specs.Stranding.{strands_by}
 use Rattle.plans.specs.declared.plan.Decision.{Decision}
@@ -15,7 +16,7 @@ abbrev pub entries : List ℕ → List ℕ → List ℕ → List ℕ → List �
 entries ss ps qs cs ls ks t =
     record { state = get_or ss t 0; policy = get_or ps t 0; prio = get_or qs t 0; cpu = get_or cs t 0; slice = get_or ls t 0; mask = get_or ks t 0 }
 
-unfoldable pub Decides : Machine → Event → Decision → Type 0
+unfoldable pub Decides : Machine → Event → Result Decision Refusal → Type 0
 Decides m e d = Decided (refusal m e) (effect e m) m d
 
 -- a kind that is decided with others: none of 3 to 8

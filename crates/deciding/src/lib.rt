@@ -2,13 +2,14 @@
 #![tactic(auto)]
 
 ghost use Rattle.rules.specs.Machine.{Machine};
-ghost use Rattle.rules.specs.Events.{event};
+ghost use Rattle.plans.specs.Decided.{as_event};
 ghost use Rattle.deciding.specs.Subject.{Lent, Rare, Decides};
 
 pub mod read;
 
+use plans::event::Event;
 use plans::plan::Decision;
-use rules::answer::UNKNOWN_KIND;
+use rules::answer::Refusal;
 
 // All kinds but 3 to 8. `stranding`: kind 10 would leave a task nowhere to go.
 pub fn decide(
@@ -22,26 +23,25 @@ pub fn decide(
     slice: &[u16],
     mask: &[u64],
     stranding: bool,
-    kind: u32,
-    who: u32,
-    a: u32,
-    b: u32,
-    k: u64,
-) -> Decision
-    requires rare { Rare kind }
+    event: Event,
+) -> Result<Decision, Refusal>
+    requires rare { Rare event.kind }
     requires lent { (m : Machine)
-        × Lent m n online full state.now policy.now prio.now cpu.now slice.now mask.now stranding kind who }
+        × Lent m n online full state.now policy.now prio.now cpu.now slice.now mask.now stranding event.kind event.who }
     ensures { (m : Machine)
-        → Lent m n online full state.now policy.now prio.now cpu.now slice.now mask.now stranding kind who
-        → Decides m (event kind who a b k) result }
+        → Lent m n online full state.now policy.now prio.now cpu.now slice.now mask.now stranding event.kind event.who
+        → Decides m (as_event event) result }
 {
-    let task = read::task_at(state, policy, prio, cpu, slice, mask, who as usize);
-    match kind {
-        1 => lifecycle::add(n, full, task, who, a, b, k),
-        2 => lifecycle::remove(task, who),
-        9 => percpu::set_ordinary(n, who, b),
-        10 => percpu::take_offline(n, online, stranding, who),
-        11 => percpu::bring_online(n, online, who),
-        _ => Decision::Refused(UNKNOWN_KIND),
+    let task = read::task_at(state, policy, prio, cpu, slice, mask, event.who as usize);
+    // over the kinds' numbers, the rest refused: the form that the project's scope gives for this place
+    match event.kind {
+        1 => Ok(Decision::Place(lifecycle::add(
+            n, full, task, event.who, event.a, event.b, event.mask,
+        )?)),
+        2 => Ok(Decision::Place(lifecycle::remove(task, event.who)?)),
+        9 => percpu::set_ordinary(n, event.who, event.b),
+        10 => percpu::take_offline(n, online, stranding, event.who),
+        11 => percpu::bring_online(n, online, event.who),
+        _ => Err(Refusal::UnknownKind),
     }
 }

@@ -2,16 +2,15 @@
 ghost use Rattle.decoding.specs.Filled.{Filled};
 
 use super::item::item_at;
-use recording::{BATCH, Ending, Event, Item};
+use recording::{BATCH, Ending, Event};
 
-// So many events, and the place behind them. `more` says that the batch is full; else the recording ends there, in that way.
+// So many events, and the place behind them; and how the recording ends there, or None: the batch is full, and more may come.
 #[derive(Clone, Copy)]
 pub struct Batch {
-    pub events: [Event; BATCH],
+    pub events: [Event; BATCH], // the first `count` of them: memory is fixed, there is no heap
     pub count: usize,
     pub place: usize,
-    pub more: bool,
-    pub ending: Ending,
+    pub ending: Option<Ending>,
 }
 
 // The events from a place on, where so many records more may come.
@@ -27,24 +26,20 @@ pub fn fill(bytes: &[u8], from: usize, room: usize) -> Batch
         stamp: 0,
     };
     let mut events = [none; BATCH];
-    let mut count = 0;
     let mut place = from;
-    while count < BATCH {
-        let item = item_at(bytes, place, room - count);
-        match item {
-            Item::Ends(ending) => {
+    for count in 0..BATCH {
+        match item_at(bytes, place, room - count) {
+            Ok(held) => {
+                events[count] = held.event;
+                place = held.end;
+            }
+            Err(ending) => {
                 return Batch {
                     events,
                     count,
                     place,
-                    more: false,
-                    ending,
+                    ending: Some(ending),
                 };
-            }
-            Item::Holds { event, end } => {
-                events[count] = event;
-                place = end;
-                count += 1;
             }
         }
     }
@@ -52,7 +47,6 @@ pub fn fill(bytes: &[u8], from: usize, room: usize) -> Batch
         events,
         count: BATCH,
         place,
-        more: true,
-        ending: Ending::Whole,
+        ending: None,
     }
 }

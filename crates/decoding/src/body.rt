@@ -13,18 +13,14 @@ pub const STAMP: usize = 4;
 pub fn layout_of(kind: u8) -> Layout
     ensures { result ≡ widths_of (layout_of kind) }
 {
+    // over the kinds' numbers: the form that the project's scope gives for this place
     match kind {
         1 => widths(2, 1, 1, 8),
-        2 => widths(2, 0, 0, 0),
-        3 => widths(2, 0, 0, 0),
-        4 => widths(2, 0, 0, 0),
+        2 | 3 | 4 => widths(2, 0, 0, 0),
         5 => widths(2, 0, 1, 0),
         6 => widths(2, 0, 0, 8),
-        7 => widths(1, 0, 0, 0),
-        8 => widths(1, 0, 0, 0),
+        7 | 8 | 10 | 11 => widths(1, 0, 0, 0),
         9 => widths(1, 0, 1, 0),
-        10 => widths(1, 0, 0, 0),
-        11 => widths(1, 0, 0, 0),
         _ => widths(0, 0, 0, 0),
     }
 }

@@ -1,53 +1,53 @@
--- An event's own effect by what was decided: refused, nothing, or a plan whose task has gone where it says.
+-- An event's own effect by what was decided: a refusal, nothing, or a plan whose task has gone where it says.
 -- Assumes nothing.
 use mathlib.Core.Path.{◌≡◌, refl, sym, ap, ◌∙◌, subst, subst₂}
 use mathlib.Core.Bool.{Bool, true, false, cond, true≢false}
 use mathlib.Core.List.{List}
 use mathlib.Core.Logic.{◌⊎◌, inl, inr}
-use mathlib.Core.Option.{none, some}
+use mathlib.Core.Option.{none}
 use Prim.Native.Nat.{ℕ, ◌≤◌, ◌<◌}
 use lib.ListN.{length, set, get_or}
 use lib.Seq.{set-get_or}
 use borrow.Author.Tests.{eq-eqb, ne_eqb}
 use Rattle.levels.specs.declared.record.Record.{Record}
-use Rattle.rules.specs.Machine.{Machine, Task, Column, task_of, row, head, running, store, write, task_places, cpu_places}
+use Rattle.rules.specs.Machine.{Machine, Task, Column, task_of, store, write, task_places, cpu_places}
 use Rattle.rules.specs.Events.{Event, effect}
 use Rattle.rules.specs.Migration.{next}
 use Rattle.rules.specs.Plan.{Plan, carried, rewrite, reorder, shift, with_slice, Doable, Carries}
 use Rattle.rules.specs.Refusals.{refusal}
-use Rattle.rules.specs.Tables.{nothing}
+use Rattle.rules.specs.Answers.{number_of}
+use Rattle.rules.specs.declared.answer.Refusal.{Refusal}
+use Rattle.rules.proofs.Answers.{number_some}
+use Rattle.std.specs.Prelude.{Option, None, Some, is_some, unwrap_or, option_map, Result, Ok, Err, IsErrAnd}
 use Rattle.rules.specs.WellFormed.{WellFormed}
-use Rattle.rules.specs.Lists.{In}
-use Rattle.laws.proofs.Apart.{in_row}
 use Rattle.laws.proofs.Effects.{keep_effect}
-use Rattle.laws.proofs.Lists.{in_here}
 use Rattle.laws.proofs.Touched.{limited_settled}
 use Rattle.plans.proofs.Planned.{write_slice}
-use Rattle.plans.proofs.Plans.{runs}
-use Rattle.plans.specs.Decided.{as_task, as_plan, Named, Runs, first_of, Shaped, Reorders, Requeues, Shifts}
+use Rattle.plans.specs.Decided.{as_task, as_plan, Named, Planned, Reorders, Requeues, Shifts}
 use Rattle.plans.specs.declared.plan.Task.{Task as Columns}
+use Rattle.plans.specs.declared.plan.Entry.{Entry}
 use Rattle.plans.specs.declared.plan.Plan.{Plan as Written}
-use Rattle.plans.specs.declared.plan.Decision.{Decision}
-use Rattle.plans.specs.declared.plan.Decision.TheVariants.{Refused, Nothing, Place, Flag, Offline, Online}
-use Rattle.deciding.specs.Subject.{entries, Decides, LentRows}
+use Rattle.plans.specs.declared.plan.Decision.TheVariants.{Place}
+use Rattle.deciding.specs.Subject.{entries, LentRows}
 use Rattle.carrying.specs.Holds.{Holds, Placeable}
 use Rattle.carrying.proofs.Placing.{column, flags_kept, online_kept}
 use Rattle.hinting.specs.Hinted.{candidates, Among}
 use Rattle.hinting.specs.Past.{past_of, candidates_since}
 use Rattle.hinting.specs.declared.hint.Candidates.{Candidates}
 use Rattle.hinting.proofs.Events.{event_among}
-use Rattle.queueing.specs.Moved.{Moving, Running, Moved}
-use Rattle.effect.specs.Effected.{told, Lends, Effected}
-use Rattle.effect.specs.declared.Effect.{Effect}
+use Rattle.queueing.specs.Moved.{Moving, Moved}
+use Rattle.effect.specs.Effected.{Lends, Effected}
 
--- of a kind that may give a plan, what is neither refused nor placed is nothing
-pub only_nothing : (s : Plan → Type 0) (d : Decision) → ((x : ℕ) → d ≡ Refused x → ⊥) → ((p : Written) → d ≡ Place p → ⊥) → Shaped s d → d ≡ Nothing
-only_nothing s (Refused a) not_refused not_placed k = absurd (not_refused a refl)
-only_nothing s Nothing not_refused not_placed k = refl
-only_nothing s (Place p) not_refused not_placed k = absurd (not_placed p refl)
-only_nothing s (Flag c b) not_refused not_placed k = absurd k
-only_nothing s (Offline c) not_refused not_placed k = absurd k
-only_nothing s (Online c) not_refused not_placed k = absurd k
+-- ---- where a plan enters a row
+
+abbrev pub target_of : Option Entry → ℕ
+target_of o = unwrap_or (option_map (λ (n : Entry). n.target) o) 0
+
+abbrev front_of : Option Entry → Bool
+front_of o = unwrap_or (option_map (λ (n : Entry). n.front) o) false
+
+does_enter : {o : Option Entry} {n : Entry} → o ≡ Some n → is_some o ≡ true
+does_enter z = ap (λ (o : Option Entry). is_some o) z
 
 -- ---- a plan by its shape: the task stays where it is, or goes one of several ways
 
@@ -55,11 +55,11 @@ module _ (q : Written) (t : ℕ) (τ : Task) {A : Type 0} (way : A → Plan) (en
   abbrev Shape : Type 0
   Shape = (as_plan q ≡ rewrite t τ) ⊎ ((a : A) × (as_plan q ≡ way a))
 
-  stays : Shape → q.enters ≡ false → as_plan q ≡ rewrite q.task (as_task q.becomes)
+  stays : Shape → q.enters ≡ None → as_plan q ≡ rewrite q.task (as_task q.becomes)
   stays (inl e) z = e ∙ ap (λ (p : Plan). rewrite p.task p.becomes) (sym e)
-  stays (inr (a, e)) z = absurd (true≢false (sym (ap (λ (p : Plan). p.enters) e ∙ enters a) ∙ z))
+  stays (inr (a, e)) z = absurd (true≢false (sym (ap (λ (p : Plan). p.enters) e ∙ enters a) ∙ ap (λ (o : Option Entry). is_some o) z))
 
-  goes : Shape → q.enters ≡ true → (a : A) × (as_plan q ≡ way a)
+  goes : Shape → (as_plan q).enters ≡ true → (a : A) × (as_plan q ≡ way a)
   goes (inl e) z = absurd (true≢false (sym z ∙ ap (λ (p : Plan). p.enters) e))
   goes (inr w) z = w
 
@@ -72,11 +72,14 @@ module _ (q : Written) (t c : ℕ) (τ : Task) where
   abbrev place : Bool → Plan
   place f = reorder f t c τ
 
-  pub stays_there : Reorders t c τ (as_plan q) → q.enters ≡ false → as_plan q ≡ rewrite q.task (as_task q.becomes)
+  pub stays_there : Reorders t c τ (as_plan q) → q.enters ≡ None → as_plan q ≡ rewrite q.task (as_task q.becomes)
   stays_there = stays q t τ place (λ f. refl) (λ f. (refl, refl))
 
-  pub takes_place : Reorders t c τ (as_plan q) → q.enters ≡ true → as_plan q ≡ reorder q.front q.task q.origin (as_task q.becomes)
-  takes_place k z = let e = (goes q t τ place (λ f. refl) (λ f. (refl, refl)) k z).1 in e ∙ ap (λ (p : Plan). reorder p.front p.task p.origin p.becomes) (sym e)
+  pub takes_place : {n : Entry} → Reorders t c τ (as_plan q) → q.enters ≡ Some n → as_plan q ≡ reorder n.front q.task n.target (as_task q.becomes)
+  takes_place k z =
+      let e = (goes q t τ place (λ f. refl) (λ f. (refl, refl)) k (does_enter z)).1 in
+      e ∙ ap (λ (p : Plan). reorder p.front p.task p.target p.becomes) (sym e)
+      ∙ ap (λ (o : Option Entry). reorder (front_of o) q.task (target_of o) (as_task q.becomes)) z
 
   pub reorders_task : Reorders t c τ (as_plan q) → (q.task ≡ t) × (as_task q.becomes ≡ τ)
   reorders_task = about q t τ place (λ f. refl) (λ f. (refl, refl))
@@ -86,12 +89,17 @@ module _ (q : Written) (t c : ℕ) (τ : Task) where
   behind (inl e) = inl e
   behind (inr e) = inr (false, e)
 
-  pub stays_first : Requeues t c τ (as_plan q) → q.enters ≡ false → as_plan q ≡ rewrite q.task (as_task q.becomes)
+  pub stays_first : Requeues t c τ (as_plan q) → q.enters ≡ None → as_plan q ≡ rewrite q.task (as_task q.becomes)
   stays_first k = stays_there (behind k)
 
-  pub goes_behind : Requeues t c τ (as_plan q) → q.enters ≡ true → (as_plan q ≡ reorder false q.task q.origin (as_task q.becomes)) × (q.origin ≡ c)
-  goes_behind (inl e) z = absurd (true≢false (sym z ∙ ap (λ (p : Plan). p.enters) e))
-  goes_behind (inr e) z = (e ∙ ap (λ (p : Plan). reorder false p.task p.origin p.becomes) (sym e), ap (λ (p : Plan). p.origin) e)
+  pub goes_behind : {n : Entry} → Requeues t c τ (as_plan q) → q.enters ≡ Some n
+      → (as_plan q ≡ reorder false q.task n.target (as_task q.becomes)) × (n.target ≡ c)
+  goes_behind (inl e) z = absurd (true≢false (sym (does_enter z) ∙ ap (λ (p : Plan). p.enters) e))
+  goes_behind (inr e) z = (
+    e ∙ ap (λ (p : Plan). reorder false p.task p.target p.becomes) (sym e)
+        ∙ ap (λ (o : Option Entry). reorder false q.task (target_of o) (as_task q.becomes)) z,
+    sym (ap target_of z) ∙ ap (λ (p : Plan). p.target) e,
+  )
 
   pub requeues_task : Requeues t c τ (as_plan q) → (q.task ≡ t) × (as_task q.becomes ≡ τ)
   requeues_task k = reorders_task (behind k)
@@ -100,30 +108,25 @@ module _ (q : Written) (t c : ℕ) (τ : Task) where
   abbrev row_of : ℕ → Plan
   row_of d = shift t c τ d
 
-  pub stays_in_row : Shifts t c τ (as_plan q) → q.enters ≡ false → as_plan q ≡ rewrite q.task (as_task q.becomes)
+  pub stays_in_row : Shifts t c τ (as_plan q) → q.enters ≡ None → as_plan q ≡ rewrite q.task (as_task q.becomes)
   stays_in_row = stays q t τ row_of (λ d. refl) (λ d. (refl, refl))
 
-  pub changes_row : Shifts t c τ (as_plan q) → q.enters ≡ true → as_plan q ≡ shift q.task q.origin (as_task q.becomes) q.target
-  changes_row k z = let e = (goes q t τ row_of (λ d. refl) (λ d. (refl, refl)) k z).1 in e ∙ ap (λ (p : Plan). shift p.task p.origin p.becomes p.target) (sym e)
+  pub changes_row : {n : Entry} → Shifts t c τ (as_plan q) → q.enters ≡ Some n → as_plan q ≡ shift q.task c (as_task q.becomes) n.target
+  changes_row k z =
+      let e = (goes q t τ row_of (λ d. refl) (λ d. (refl, refl)) k (does_enter z)).1 in
+      e ∙ ap (λ (p : Plan). shift p.task c p.becomes p.target) (sym e)
+      ∙ ap (λ (o : Option Entry). shift q.task c (as_task q.becomes) (target_of o)) z
 
   pub shifts_task : Shifts t c τ (as_plan q) → (q.task ≡ t) × (as_task q.becomes ≡ τ)
   shifts_task = about q t τ row_of (λ d. refl) (λ d. (refl, refl))
 
--- a task that is placed is one
-pub place_task : (m : Machine) (e : Event) (q : Written) → Decides m e (Place q) → q.task < task_places
-unfolding Decides
-place_task m e q d = d.1.doable.task
+-- the event is accepted, and its own effect is the plan q
+abbrev pub Plans : Machine → Event → Written → Type 0
+Plans m e q = Planned (refusal m e) (effect e m) m (Ok q)
 
--- the task that runs on CPU c, which goes on to be runnable with its priority
-pub runs_on : {m : Machine} {c t d u : ℕ} {τ : Columns} {σ : Task} → Runs m c t τ → u < task_places → u ≡ t → d ≡ c → σ.state ≡ (task_of m u).state → σ.prio ≡ (task_of m u).prio
-    → Running m u d σ
-runs_on {m} {c} {t} {d} {u} l h et ed es ep =
-    let r = runs l (subst (λ (x : ℕ). x < task_places) et h) in
-    record {
-      first = ap (running m) ed ∙ ap head r.1 ∙ ap some (sym et);
-      state = es ∙ ap (λ (x : ℕ). (task_of m x).state) et ∙ (in_row m t c l.formed (subst (In t) (sym r.1) (in_here t r.0))).0;
-      prio = ep;
-    }
+-- a task that is placed is one
+pub place_task : (m : Machine) (e : Event) (q : Written) → Plans m e q → q.task < task_places
+place_task m e q d = d.1.doable.task
 
 -- a column in which a task's entry is what it was
 pub unchanged : {xs ys : List ℕ} (t : ℕ) {v : ℕ} → xs ≡ ys → v ≡ get_or ys t 0 → xs ≡ set ys t v
@@ -157,10 +160,6 @@ module _ {m : Machine} {ss ps qs cs ls ks flat ns fs : List ℕ} {on : ℕ} {r :
   pub named_is : (t : ℕ) {τ : Columns} → as_task τ ≡ entries ss ps qs cs ls ks t → Named m t τ
   named_is t read = record { formed = l.formed; columns = columns_are t read }
 
-  -- and of the task that runs on CPU c
-  pub runs_is : (c : ℕ) {t : ℕ} {τ : Columns} → t ≡ first_of (row m c) → as_task τ ≡ entries ss ps qs cs ls ks t → Runs m c t τ
-  runs_is c {t} first read = record { formed = l.formed; first = first; columns = columns_are t read }
-
   pub lent_rows : {n : ℕ} → n ≡ m.n → LentRows m n flat ns
   lent_rows is = record { formed = l.formed; cpus = is; rows = l.holds.rows; counts = l.holds.counts }
 
@@ -168,38 +167,40 @@ module _ {m : Machine} {ss ps qs cs ls ks flat ns fs : List ℕ} {on : ℕ} {r :
   few_cpus is = subst (λ (x : ℕ). x ≤ cpu_places) (sym is) l.formed.shape.cpus
 
   module _ (e : Event) where
-    pub refused_is : {a : ℕ} {o : Effect} → Decides m e (Refused a) → o ≡ told a cpu_places nothing → Effected m e o ss ps qs cs ls ks flat ns fs on r
-    unfolding Decides
-    refused_is {a} {o} d is =
+    pub refused_is : {x : Refusal} → number_of x ≡ refusal m e → Effected m e (Err x) ss ps qs cs ls ks flat ns fs on r
+    refused_is {x} is =
         record {
-          answer = ap (λ (x : Effect). x.answer) is ∙ d.0;
-          holds = subst (λ (b : Bool). Holds (cond b (effect e m) m) ss ps qs cs ls ks flat ns fs on r) (sym (ne_eqb (refusal m e) 0 (λ z. d.1 (d.0 ∙ z)))) l.holds;
-          few = λ z. absurd (d.1 (d.0 ∙ z));
+          answer = is;
+          holds = subst (λ (b : Bool). Holds (cond b (effect e m) m) ss ps qs cs ls ks flat ns fs on r)
+              (sym (ne_eqb (refusal m e) 0 (λ z. number_some x (is ∙ z)))) l.holds;
+          few = tt;
         }
 
-    pub nothing_is : {o : Effect} → Decides m e Nothing → o ≡ told 0 cpu_places nothing → Effected m e o ss ps qs cs ls ks flat ns fs on r
-    unfolding Decides
-    nothing_is {o} d is =
+    -- one that `?` passes on
+    pub passed_on : (x : Refusal) (o : Result Candidates Refusal) → IsErrAnd o (λ y. y ≡ x) → number_of x ≡ refusal m e → Effected m e o ss ps qs cs ls ks flat ns fs on r
+    passed_on x (Ok f) h is = absurd h
+    passed_on x (Err y) h is = refused_is (ap number_of h ∙ is)
+
+    pub nothing_is : 0 ≡ refusal m e → effect e m ≡ m → Effected m e (Ok (candidates none none)) ss ps qs cs ls ks flat ns fs on r
+    nothing_is accepted same =
         record {
-          answer = ap (λ (x : Effect). x.answer) is ∙ d.0;
-          holds = subst (λ (b : Bool). Holds (cond b (effect e m) m) ss ps qs cs ls ks flat ns fs on r) (sym (eq-eqb (refusal m e) 0 (sym d.0)))
-              (subst (λ (x : Machine). Holds x ss ps qs cs ls ks flat ns fs on r) (sym d.1) l.holds);
-          few = λ z still.
-              subst₂ (λ (x : Machine) (y : Effect). Among x (candidates y.fallen y.new)) (sym d.1) (sym is) (limited_settled m still);
+          answer = accepted;
+          holds = subst (λ (b : Bool). Holds (cond b (effect e m) m) ss ps qs cs ls ks flat ns fs on r) (sym (eq-eqb (refusal m e) 0 (sym accepted)))
+              (subst (λ (x : Machine). Holds x ss ps qs cs ls ks flat ns fs on r) (sym same) l.holds);
+          few = λ still. subst (λ (x : Machine). Among x (candidates none none)) (sym same) (limited_settled m still);
         }
 
     -- another slice, and nothing else: nobody looks at it
-    pub sliced_is : {q : Written} {o : Effect} {ls' : List ℕ} (v : ℕ) → Decides m e (Place q) → as_plan q ≡ rewrite q.task (as_task q.becomes)
-        → as_task q.becomes ≡ with_slice v (task_of m q.task) → ls' ≡ set m.slice q.task q.becomes.slice → o ≡ told 0 cpu_places nothing
-        → Effected m e o ss ps qs cs ls' ks flat ns fs on r
-    unfolding Decides
-    sliced_is {q} {o} {ls'} v d shape becomes el is =
+    pub sliced_is : (q : Written) {ls' : List ℕ} (v : ℕ) → Plans m e q → as_plan q ≡ rewrite q.task (as_task q.becomes)
+        → as_task q.becomes ≡ with_slice v (task_of m q.task) → ls' ≡ set m.slice q.task q.becomes.slice
+        → Effected m e (Ok (candidates none none)) ss ps qs cs ls' ks flat ns fs on r
+    sliced_is q {ls'} v d shape becomes el =
         record {
-          answer = ap (λ (x : Effect). x.answer) is ∙ d.0;
+          answer = d.0;
           holds = subst (λ (b : Bool). Holds (cond b (effect e m) m) ss ps qs cs ls' ks flat ns fs on r) (sym (eq-eqb (refusal m e) 0 (sym d.0)))
               (subst (λ (b : Machine). Holds b ss ps qs cs ls' ks flat ns fs on r) (sym sliced) all);
-          few = λ z still.
-              subst₂ (λ (x : Machine) (y : Effect). Among x (candidates y.fallen y.new)) (sym sliced) (sym is)
+          few = λ still.
+              subst (λ (x : Machine). Among x (candidates none none)) (sym sliced)
               (let s = limited_settled m still in record { small = s.small; waits = s.waits; only = s.only; quiet = s.quiet });
         }
       where
@@ -223,9 +224,8 @@ module _ {m : Machine} {ss ps qs cs ls ks flat ns fs : List ℕ} {on : ℕ} {r :
               levels = l.holds.levels;
             }
 
-    module _ {q : Written} (d : Decides m e (Place q)) {p : Plan} (shape : as_plan q ≡ p) where
+    module _ (q : Written) (d : Plans m e q) {p : Plan} (shape : as_plan q ≡ p) where
       carries : (0 ≡ refusal m e) × Carries (effect e m) m p
-      unfolding Decides
       carries = (d.0, subst (Carries (effect e m) m) shape d.1)
 
       formed_after : WellFormed (carried p m)
@@ -275,18 +275,16 @@ module _ {m : Machine} {ss ps qs cs ls ks flat ns fs : List ℕ} {on : ℕ} {r :
           }
 
       -- and its task has gone where it says
-      pub placed_is : {o : Effect} {x : Candidates} {ss' ps' qs' cs' ls' ks' flat' ns' : List ℕ} {r' : Record} → ss' ≡ set m.state p.task p.becomes.state
+      pub placed_is : {x : Candidates} {ss' ps' qs' cs' ls' ks' flat' ns' : List ℕ} {r' : Record} → ss' ≡ set m.state p.task p.becomes.state
           → ps' ≡ set m.policy p.task p.becomes.policy → qs' ≡ set m.prio p.task p.becomes.prio
           → ls' ≡ set m.slice p.task p.becomes.slice → ks' ≡ set m.mask p.task p.becomes.mask → Moved x m p cs' flat' ns' r'
-          → o ≡ told 0 x.fallen x.new → Effected m e o ss' ps' qs' cs' ls' ks' flat' ns' fs on r'
-      placed_is {o} {x} {ss'} {ps'} {qs'} {cs'} {ls'} {ks'} {flat'} {ns'} {r'} es ep eq el ek go is =
+          → Effected m e (Ok x) ss' ps' qs' cs' ls' ks' flat' ns' fs on r'
+      placed_is {x} {ss'} {ps'} {qs'} {cs'} {ls'} {ks'} {flat'} {ns'} {r'} es ep eq el ek go =
           record {
-            answer = ap (λ (y : Effect). y.answer) is ∙ carries.0;
+            answer = carries.0;
             holds = subst (λ (b : Bool). Holds (cond b (effect e m) m) ss' ps' qs' cs' ls' ks' flat' ns' fs on r') (sym (eq-eqb (refusal m e) 0 (sym carries.0)))
                 (subst (λ (b : Machine). Holds b ss' ps' qs' cs' ls' ks' flat' ns' fs on r') (sym carries.1.effect) all);
-            few = λ z still.
-                subst₂ (λ (b : Machine) (y : Effect). Among b (candidates y.fallen y.new)) (sym carries.1.effect) (sym is)
-                (subst (Among (carried p m)) (sym go.few) (among still));
+            few = λ still. subst₂ Among (sym carries.1.effect) (sym go.few) (among still);
           }
         where
           all : Holds (carried p m) ss' ps' qs' cs' ls' ks' flat' ns' fs on r'

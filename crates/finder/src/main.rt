@@ -4,9 +4,10 @@
 
 ghost use Rattle.std.specs.Prelude.{◌<◌};
 
-use cpupri::find::Found;
+use cpupri::find::{Found, Lowest};
 use cpupri::level::Level;
 use cpupri::record::Record;
+use refusal::Refusal;
 use std::io;
 use std::io::Write;
 
@@ -33,17 +34,17 @@ fn one_cpu<W: Write>(out: &mut W) -> io::Result<()> {
 // CPU 0 runs priority 50, CPU 1 ordinary work, CPU 2 nothing; then CPU 2 goes to priority 99.
 fn three_cpus<W: Write>(out: &mut W) -> io::Result<()> {
     let mut r = Record::fresh(3);
-    r = r.set_level(0, Level::of_priority(50));
-    r = r.set_level(1, Level::ORDINARY);
+    r.set_level(0, Level::of_priority(50));
+    r.set_level(1, Level::ORDINARY);
     ask(out, 3, r, 52, 7)?;
     ask(out, 3, r, 52, 3)?;
     ask(out, 3, r, 52, 1)?;
     ask(out, 3, r, 53, 1)?;
     ask(out, 3, r, 1, 2)?;
-    r = r.set_level(2, Level::of_priority(99));
+    r.set_level(2, Level::of_priority(99));
     ask(out, 3, r, 101, 7)?;
     ask(out, 3, r, 101, 4)?;
-    r = r.set_level(2, Level::INVALID);
+    r.set_level(2, Level::INVALID);
     ask(out, 2, r, 101, 3)?;
     ask(out, 3, r, 101, 7)
 }
@@ -53,7 +54,7 @@ fn all_cpus<W: Write>(out: &mut W) -> io::Result<()> {
     let mut r = Record::fresh(64);
     for cpu in 0..64 {
         let priority = (99 - cpu) as u8;
-        r = r.set_level(cpu, Level::of_priority(priority));
+        r.set_level(cpu, Level::of_priority(priority));
     }
     ask(out, 64, r, 101, 0xffff_ffff_ffff_ffff)?;
     ask(out, 64, r, 101, 0x0000_0000_ffff_fff0)?;
@@ -68,20 +69,15 @@ fn ask<W: Write>(out: &mut W, n: usize, r: Record, level: u32, mask: u64) -> io:
     answer(out, cpupri::find::find(n, r, level, mask))
 }
 
-fn answer<W: Write>(out: &mut W, found: Found) -> io::Result<()> {
+fn answer<W: Write>(out: &mut W, found: Result<Found, Refusal>) -> io::Result<()> {
     match found {
-        Found::Cpus { level, mask, read } => {
-            write!(out, ": level {level}, CPUs {mask}")?;
-            masks_read(out, read)
+        Ok(found) => {
+            match found.lowest {
+                Some(Lowest { level, mask }) => write!(out, ": level {level}, CPUs {mask}")?,
+                None => write!(out, ": none")?,
+            }
+            writeln!(out, ", masks read {}", found.read)
         }
-        Found::Nothing { read } => {
-            write!(out, ": none")?;
-            masks_read(out, read)
-        }
-        Found::Refused(number) => writeln!(out, ": refused {number}"),
+        Err(refusal) => writeln!(out, ": refused {}", refusal.number()),
     }
-}
-
-fn masks_read<W: Write>(out: &mut W, read: u32) -> io::Result<()> {
-    writeln!(out, ", masks read {read}")
 }

@@ -7,11 +7,14 @@ use Prim.Native.Nat.{ℕ, zero, suc, ◌*◌, ◌<◌}
 use native.Mathlib.Omega.{arith}
 use lib.ListN.{length}
 use borrow.Author.Tests.{eq-eqb, ne_eqb}
+use Rattle.std.specs.Prelude.{Result as Answer, Ok, Option as Maybe}
 use Rattle.levels.specs.declared.record.Record.{Record}
 use Rattle.rules.specs.Machine.{Machine, task_places, cpu_places}
 use Rattle.rules.specs.WellFormed.{WellFormed}
 use Rattle.rules.specs.Events.{Event, effect}
 use Rattle.rules.specs.Refusals.{refusal}
+use Rattle.rules.specs.Answers.{answer_of}
+use Rattle.rules.specs.declared.answer.Refusal.{Refusal}
 use Rattle.rules.specs.Migration.{Move, Settled, settle_all, migrate}
 use Rattle.rules.specs.Outcome.{Outcome, logged}
 use Rattle.rules.specs.Tables.{Tables, machine_of, tables_of, flat_of, rows_of, row_counts, log_places}
@@ -28,9 +31,8 @@ use Rattle.laws.proofs.Settled.{handled_still, still_handled}
 use Rattle.lenttables.specs.Lent.{lent}
 use Rattle.carrying.specs.Holds.{Holds}
 use Rattle.effect.specs.Effected.{Lends, Effected}
-use Rattle.effect.specs.declared.Effect.{Effect}
 use Rattle.hinting.specs.Hinted.{known_if, Hinted}
-use Rattle.hinting.specs.declared.hint.Hint.{Hint}
+use Rattle.hinting.specs.declared.hint.Candidates.{Candidates}
 use Rattle.placement.proofs.Order.{well_formed_order}
 use Rattle.migration.specs.Settling.{Settling, Ended}
 
@@ -130,14 +132,14 @@ module _ {n : ℕ} {r : Record} {s : Tables} (h : Passed n r s) where
 
   -- ---- what the event's own effect left
 
-  module _ (e : Event) {o : Effect} {t : Tables} {q : Record}
+  module _ (e : Event) {o : Answer Candidates Refusal} {t : Tables} {q : Record}
       (own : Effected (machine_of n s) e o t.state t.policy t.prio t.cpu t.slice t.mask t.rows t.counts t.flags t.online q)
       (full : t.full ≡ s.full) (log : t.log ≡ s.log) where
     -- refused: nothing was written
-    pub refused_result : (o.answer ≡ 0 → ⊥) → Handed n r s e o.answer 0 q t
+    pub refused_result : (answer_of o ≡ 0 → ⊥) → Handed n r s e (answer_of o) 0 q t
     refused_result z =
-        subst₂ (λ (x : Record) (y : Tables). Handed n r s e o.answer 0 x y) (holds.levels ∙ sym stays.levels) (sym same)
-        (handed n r s e o.answer 0 r s (go o.answer refl) h.checks)
+        subst₂ (λ (x : Record) (y : Tables). Handed n r s e (answer_of o) 0 x y) (holds.levels ∙ sym stays.levels) (sym same)
+        (handed n r s e (answer_of o) 0 r s (go (answer_of o) refl) h.checks)
       where
         stays : Holds before t.state t.policy t.prio t.cpu t.slice t.mask t.rows t.counts t.flags t.online q
         stays =
@@ -162,13 +164,13 @@ module _ {n : ℕ} {r : Record} {s : Tables} (h : Passed n r s) where
               log = log;
             })
 
-        go : (b : ℕ) → o.answer ≡ b → result_of o.answer 0 r s ≡ handled n r s e
+        go : (b : ℕ) → answer_of o ≡ b → result_of (answer_of o) 0 r s ≡ handled n r s e
         go zero x = absurd (z x)
         go (suc b) x =
             ap (λ (k : ℕ). kept k r s) x
             ∙ sym (handled_refused n r s e b (answer_event n r s e h.checks ∙ sym own.answer ∙ x))
 
-    pub carries : o.answer ≡ 0 → Carried n r s e t q
+    pub carries : answer_of o ≡ 0 → Carried n r s e t q
     carries z =
         record {
           passed = h;
@@ -180,13 +182,15 @@ module _ {n : ℕ} {r : Record} {s : Tables} (h : Passed n r s) where
               (eq-eqb (refusal before e) 0 (sym own.answer ∙ z)) own.holds;
         }
 
-    -- and the hint that it gives is true
-    pub hinted : o.answer ≡ 0 → (settled : Bool) → (settled ≡ true → Still n s) → {x : Hint} → x ≡ known_if settled o.fallen o.new → Hinted (effect e (machine_of n s)) x
-    hinted z settled calm is = subst (Hinted (effect e before)) (sym is) (go settled calm)
-      where
-        go : (b : Bool) → (b ≡ true → Still n s) → Hinted (effect e before) (known_if b o.fallen o.new)
-        go true c = own.few (sym own.answer ∙ z) (c refl)
-        go false c = tt
+  -- and the hint that it gives is true
+  pub hinted : (e : Event) (t : Tables) {few : Candidates} {q : Record}
+      → Effected (machine_of n s) e (Ok few) t.state t.policy t.prio t.cpu t.slice t.mask t.rows t.counts t.flags t.online q → (settled : Bool)
+      → (settled ≡ true → Still n s) → {x : Maybe Candidates} → x ≡ known_if settled few → Hinted (effect e (machine_of n s)) x
+  hinted e t {few} own settled calm is = subst (Hinted (effect e before)) (sym is) (go settled calm)
+    where
+      go : (b : Bool) → (b ≡ true → Still n s) → Hinted (effect e before) (known_if b few)
+      go true c = own.few (c refl)
+      go false c = tt
 
 -- ---- the steps after it
 

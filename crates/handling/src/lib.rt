@@ -2,27 +2,22 @@
 #![tactic(auto)]
 
 ghost use Rattle.std.specs.Prelude.{◌≡◌, true};
-ghost use Rattle.levels.specs.Record.{lent_record};
+ghost use Rattle.rules.specs.Answers.{answer_of};
 ghost use Rattle.rules.specs.Entry.{result_of, checked, handled};
-ghost use Rattle.rules.specs.Events.{event as numbers};
 ghost use Rattle.laws.specs.Still.{Still};
 ghost use Rattle.lenttables.specs.Lent.{lent};
+ghost use Rattle.plans.specs.Decided.{as_event};
+ghost use Rattle.handling.specs.Moves.{moves_of};
 
-use cpupri::record::{CPUS, LEVELS, WORDS};
+use cpupri::record::Record;
 use dispatch::effect;
 use hinting::hint::known;
 use migration::settle::settle;
-use rules::answer::ACCEPTED;
+use plans::event::Event;
+use rules::answer::Refusal;
 
-// The answer to an event: 0 and the number of moves, or a refusal with 0 moves, which changes nothing.
-#[derive(Clone, Copy)]
-pub struct Handled {
-    pub answer: u8,
-    pub moves: u32,
-}
-
-// One event on well-formed tables, which stay well-formed. Nothing is checked again but the event. `settled` says that no task is
-// movable now, as an accepted event leaves it: then few tasks are looked at.
+// One event on well-formed tables, which stay well-formed: the number of moves, or a refusal, which changes nothing. Nothing is checked again
+// but the event. `settled` says that no task is movable now, as an accepted event leaves it: then few tasks are looked at.
 pub fn handle(
     settled: bool,
     n: usize,
@@ -37,50 +32,29 @@ pub fn handle(
     flags: &mut [u8],
     online: &mut u64,
     log: &mut [u16],
-    masks: &mut [u64; LEVELS],
-    tallies: &mut [u8; LEVELS],
-    words: &mut [u64; WORDS],
-    levels: &mut [u8; CPUS],
+    record: &mut Record,
     full: u16,
-    kind: u32,
-    who: u32,
-    a: u32,
-    b: u32,
-    k: u64,
-) -> Handled
-    requires log_value { let r = lent_record masks.old tallies.old words.old levels.old in
-        checked n r (lent full state.old policy.old prio.old cpu.old slice.old mask.old rows.old counts.old flags.old online.old log.old) ≡ 0 }
-    requires still { settled ≡ true → Still n (lent full state.old policy.old prio.old cpu.old slice.old mask.old rows.old counts.old flags.old online.old log.old) }
-    ensures as_ruled { let r = lent_record masks.old tallies.old words.old levels.old in
-        let q = lent_record masks.new tallies.new words.new levels.new in
-        let s = lent full state.old policy.old prio.old cpu.old slice.old mask.old rows.old counts.old flags.old online.old log.old in
+    event: Event,
+) -> Result<u32, Refusal>
+    requires log_value { checked n «record».old
+        (lent full state.old policy.old prio.old cpu.old slice.old mask.old rows.old counts.old flags.old online.old log.old) ≡ 0 }
+    requires still { settled ≡ true → Still n
+        (lent full state.old policy.old prio.old cpu.old slice.old mask.old rows.old counts.old flags.old online.old log.old) }
+    ensures as_ruled { let s = lent full state.old policy.old prio.old cpu.old slice.old mask.old rows.old counts.old flags.old online.old log.old in
         let t = lent full state.new policy.new prio.new cpu.new slice.new mask.new rows.new counts.new flags.new online.new log.new in
-        result_of result.answer result.moves q t ≡ handled n r s (numbers kind who a b k) }
-    ensures leaves_well_formed { let q = lent_record masks.new tallies.new words.new levels.new in
-        let t = lent full state.new policy.new prio.new cpu.new slice.new mask.new rows.new counts.new flags.new online.new log.new in
-        checked n q t ≡ 0 }
+        result_of (answer_of result) (moves_of result) «record».new t ≡ handled n «record».old s (as_event event) }
+    ensures leaves_well_formed { let t = lent full state.new policy.new prio.new cpu.new slice.new mask.new rows.new counts.new flags.new online.new log.new in
+        checked n «record».new t ≡ 0 }
     ensures settles { let t = lent full state.new policy.new prio.new cpu.new slice.new mask.new rows.new counts.new flags.new online.new log.new in
-        (result.answer ≡ 0 → Still n t) }
+        (answer_of result ≡ 0 → Still n t) }
     ensures stays_settled { let s = lent full state.old policy.old prio.old cpu.old slice.old mask.old rows.old counts.old flags.old online.old log.old in
         let t = lent full state.new policy.new prio.new cpu.new slice.new mask.new rows.new counts.new flags.new online.new log.new in
         (Still n s → Still n t) }
 {
-    let own = effect(
-        n, full, state, policy, prio, cpu, slice, mask, rows, counts, flags, online, masks,
-        tallies, words, levels, kind, who, a, b, k,
-    );
-    if own.answer != ACCEPTED {
-        return Handled {
-            answer: own.answer,
-            moves: 0,
-        };
-    }
-    let hint = known(settled, own.fallen, own.new);
-    let steps = settle(
-        hint, n, prio, cpu, mask, rows, counts, log, masks, tallies, words, levels,
-    );
-    Handled {
-        answer: 0,
-        moves: steps as u32,
-    }
+    let few = effect(
+        n, full, state, policy, prio, cpu, slice, mask, rows, counts, flags, online, record, event,
+    )?;
+    let hint = known(settled, few);
+    let moves = settle(hint, n, prio, cpu, mask, rows, counts, log, record) as u32;
+    Ok(moves)
 }

@@ -1,30 +1,28 @@
 -- After an event's own effect on a settled machine: who can move is among the candidates from what was read before.
 -- Assumes nothing.
 use mathlib.Core.Path.{◌≡◌, refl, sym, ap, ◌∙◌, subst, subst₂}
-use mathlib.Core.Bool.{Bool, true, false, cond, ◌&&◌}
-use mathlib.Core.List.{List, [], ◌∷◌, tail}
+use mathlib.Core.Bool.{Bool, cond}
+use mathlib.Core.List.{List, [], ◌∷◌}
 use mathlib.Core.Option.{Option, none, some}
 use Prim.Native.Nat.{ℕ, ◌<◌}
 use native.Mathlib.Omega.{arith}
-use lib.Dec.{eqb, ltb}
-use Rattle.rules.specs.Machine.{Machine, Task as Columns, task_of, row, running, level, with_cpu, runnable, task_places, cpu_places}
+use lib.Dec.{eqb}
+use Rattle.rules.specs.Machine.{Machine, Task as Columns, task_of, row, running, runnable, task_places}
 use Rattle.rules.specs.Migration.{next}
 use Rattle.rules.specs.Plan.{carried}
-use Rattle.rules.specs.Tables.{nothing}
 use Rattle.rules.specs.WellFormed.{WellFormed, Sound, is_free, is_asleep, is_runnable}
-use Rattle.laws.specs.Limited.{Limited, holds, second, fallen_cpu, new_task, or_nothing}
+use Rattle.laws.specs.Limited.{Limited, holds, second, fallen_cpu, new_task}
 use Rattle.rules.specs.Lists.{In}
 use Rattle.laws.proofs.Apart.{in_row, runnable_place}
 use Rattle.laws.proofs.Hotplug.{limited_back, limited_left, limited_gone}
 use Rattle.laws.proofs.Lists.{in_here}
-use Rattle.laws.proofs.Limited.{waits_in, first_in}
 use Rattle.laws.proofs.Touched.{ran_there, limited_touched, touches_carried, limited_settled, limited_flag}
 use Rattle.plans.specs.Decided.{as_plan, did}
 use Rattle.plans.specs.declared.plan.Decision.{Decision}
-use Rattle.plans.specs.declared.plan.Decision.TheVariants.{Refused, Nothing, Place, Flag, Offline, Online}
-use Rattle.hinting.specs.Hinted.{cpu_option, task_option, Among}
-use Rattle.hinting.specs.Past.{past_of_row, past_by, Able, Standing, fallen_since, new_since, candidates_since}
-use Rattle.hinting.proofs.Hints.{some_task, option_task, some_cpu}
+use Rattle.plans.specs.declared.plan.Decision.TheVariants.{Nothing, Place, Flag, Offline, Online}
+use Rattle.hinting.specs.Hinted.{Among}
+use Rattle.hinting.specs.Past.{past_of, past_of_row, past_by, Able, Standing, new_since, candidates_since}
+use Rattle.hinting.proofs.Hints.{ruled_coded}
 
 -- the CPU of any task is one of the N
 pub cpu_small : (m : Machine) (t : ℕ) → WellFormed m → t < task_places → (task_of m t).cpu < m.n
@@ -40,7 +38,7 @@ pub first_place : (m : Machine) (c t : ℕ) (ts : List ℕ) → WellFormed m →
 first_place m c t ts w e = runnable_place m t w (in_row m t c w (subst (In t) (sym e) (in_here t ts))).0
 
 -- what was read before, and is read after, are the two options of the rules
-module _ (t : ℕ) (m m' : Machine) (w : WellFormed m) (w' : WellFormed m') (h : t < task_places) where
+module _ (t : ℕ) (m m' : Machine) (w : WellFormed m) where
   abbrev from : ℕ
   from = (task_of m t).cpu
 
@@ -50,53 +48,32 @@ module _ (t : ℕ) (m m' : Machine) (w : WellFormed m) (w' : WellFormed m') (h :
   abbrev ran : Bool
   ran = holds (running m from) t
 
-  fallen_is : cpu_option (fallen_since from (level m from) ran m') ≡ fallen_cpu t m m'
-  fallen_is = go (ran && ltb (level m' from) (level m from))
-    where
-      go : (b : Bool) → cpu_option (cond b from cpu_places) ≡ cond b (some from) none
-      go true = let small : from < m.n = cpu_small m t w h in some_cpu from (omega (arith, w.shape.cpus))
-      go false = refl
-
-  second_is : task_option (or_nothing (second (row m' to))) ≡ second (row m' to)
-  second_is = option_task (second (row m' to)) (λ u e. runnable_place m' u w' (in_row m' u to w' (waits_in m' u to (first_in u (tail (row m' to)) e))).0)
-
-  new_is : task_option (new_since t from ran m') ≡ new_task t m m'
+  new_is : new_since t from ran m' ≡ new_task t m m'
   new_is =
-      go (eqb (task_of m' t).state runnable) (holds (running m' to) t) (ran && eqb from to)
-      ∙ ap (λ (b : Bool). cond (eqb (task_of m' t).state runnable) (cond (holds (running m' to) t) (cond b none (second (row m' to))) (some t)) none)
+      ap (λ (b : Bool). cond (eqb (task_of m' t).state runnable) (cond (holds (running m' to) t) (cond b none (second (row m' to))) (some t)) none)
       (sym (ran_there m t to w))
-    where
-      go : (a b c : Bool) → task_option (cond a (cond b (cond c nothing (or_nothing (second (row m' to)))) t) nothing)
-          ≡ cond a (cond b (cond c none (second (row m' to))) (some t)) none
-      go true true true = refl
-      go true true false = second_is
-      go true false c = some_task t h
-      go false b c = refl
 
-  pub hinted_task : Limited m' (fallen_cpu t m m') (new_task t m m')
-      → Limited m' (cpu_option (fallen_since from (level m from) ran m')) (task_option (new_since t from ran m'))
-  hinted_task l = subst₂ (λ (a b : Option ℕ). Limited m' a b) (sym fallen_is) (sym new_is) l
+  pub hinted_task : Limited m' (fallen_cpu t m m') (new_task t m m') → Among m' (candidates_since (past_of m t) m')
+  hinted_task l =
+      subst₂ (λ (a b : Option ℕ). Limited m' a b) (sym (ruled_coded (fallen_cpu t m m'))) (sym (ruled_coded (new_since t from ran m') ∙ new_is)) l
 
 -- whatever was decided
 module _ (m : Machine) (w : WellFormed m) (still : next m ≡ none) where
   pub event_among : (d : Decision) → Able m d → WellFormed (did d m) → Among (did d m) (candidates_since (past_by m d) (did d m))
-  event_among (Refused a) k w' = limited_settled m still
   event_among Nothing k w' = limited_settled m still
   event_among (Place p) k w' =
-      hinted_task p.task m (carried (as_plan p) m) w w' k.task
+      hinted_task p.task m (carried (as_plan p) m) w
       (limited_touched p.task m (carried (as_plan p) m) w w' (touches_carried m (as_plan p) w k) still)
   event_among (Flag c b) k w' = limited_flag m c b w still
   event_among (Offline c) k w' = go (row m c) refl
     where
       go : (r : List ℕ) → row m c ≡ r → Among (did (Offline c) m) (candidates_since (past_of_row m r) (did (Offline c) m))
       go [] e = limited_left c m w k.cpu w' still e
-      go (t ∷ ts) e = hinted_task t m (did (Offline c) m) w w' (first_place m c t ts w e) (limited_gone c m w k.cpu w' still k.placed t ts e)
-  event_among (Online c) k w' =
-      subst (λ (o : Option ℕ). Limited (with_cpu c m) o none) (sym (some_cpu c (omega (arith, k, w.shape.cpus)))) (limited_back c m still k)
+      go (t ∷ ts) e = hinted_task t m (did (Offline c) m) w (limited_gone c m w k.cpu w' still k.placed t ts e)
+  event_among (Online c) k w' = limited_back c m still k
 
 -- what was read before can be looked up after
 pub past_stands : (m m' : Machine) (d : Decision) → WellFormed m → m'.n ≡ m.n → Able m d → Standing m' (past_by m d)
-past_stands m m' (Refused a) w e k = tt
 past_stands m m' Nothing w e k = tt
 past_stands m m' (Place p) w e k = (k.task, subst (λ (n : ℕ). (task_of m p.task).cpu < n) (sym e) (cpu_small m p.task w k.task))
 past_stands m m' (Flag c b) w e k = tt

@@ -2,12 +2,13 @@
 ghost use Rattle.std.specs.Prelude.{◌≡◌, ◌<◌};
 ghost use Rattle.rules.specs.Machine.{Machine, row, task_places, levels as levels_of};
 ghost use Rattle.hinting.specs.Past.{Reading, Standing, Able, past_of, past_of_row, past_by, new_since, candidates_since};
+ghost use Rattle.hinting.specs.Hinted.{coded};
 
 use super::hint::Candidates;
 use cpupri::record::CPUS;
 use plans::plan::Decision;
 use rules::task::RUNNABLE;
-use runqueue::row::{NOTHING, PLACES};
+use runqueue::row::{PLACES, task_in};
 
 // What was so before the effect.
 #[derive(Clone, Copy)]
@@ -35,7 +36,6 @@ pub fn remember(decision: Decision, cpu: &[u8], rows: &[u16], levels: &[u8; CPUS
         Decision::Place(plan) => standing(plan.task, cpu, rows, levels),
         Decision::Flag { cpu: _, work: _ } => Past::Untouched,
         Decision::Nothing => Past::Untouched,
-        Decision::Refused(_) => Past::Untouched,
         Decision::Offline { cpu: at } => runner(at, cpu, rows, levels),
         Decision::Online { cpu: at } => Past::Back { cpu: at },
     }
@@ -46,10 +46,9 @@ fn runner(at: usize, cpu: &[u8], rows: &[u16], levels: &[u8; CPUS]) -> Past
     requires { (m : Machine) × (Reading m cpu.now rows.now levels.now × (at < m.n)) }
     ensures { (m : Machine) → Reading m cpu.now rows.now levels.now → result ≡ past_of_row m (row m at) }
 {
-    let first = rows[at * PLACES];
-    if first == NOTHING {
+    let Some(first) = task_in(rows[at * PLACES]) else {
         return Past::Untouched;
-    }
+    };
     standing(first, cpu, rows, levels)
 }
 
@@ -75,13 +74,10 @@ pub fn since(past: Past, state: &[u8], cpu: &[u8], rows: &[u16], levels: &[u8; C
         → result ≡ candidates_since past m }
 {
     match past {
-        Past::Untouched => Candidates {
-            fallen: CPUS,
-            new: NOTHING,
-        },
+        Past::Untouched => Candidates::NOBODY,
         Past::Back { cpu: at } => Candidates {
-            fallen: at,
-            new: NOTHING,
+            fallen: Some(at),
+            new: None,
         },
         Past::Task {
             task,
@@ -89,32 +85,39 @@ pub fn since(past: Past, state: &[u8], cpu: &[u8], rows: &[u16], levels: &[u8; C
             level,
             ran,
         } => {
-            let new = new_task(task, at, ran, state, cpu, rows);
-            if ran & (levels[at] < level) {
-                return Candidates { fallen: at, new };
+            let fell = ran & (levels[at] < level);
+            Candidates {
+                fallen: fell.then_some(at),
+                new: new_task(task, at, ran, state, cpu, rows),
             }
-            Candidates { fallen: CPUS, new }
         }
     }
 }
 
-// The task if it waits; if it runs, and did not run there before, the task behind it, which it displaced; else none.
-pub fn new_task(task: u16, at: usize, ran: bool, state: &[u8], cpu: &[u8], rows: &[u16]) -> u16
+// The task if it waits; if it runs, and did not run there before, the task behind it, which it displaced.
+pub fn new_task(
+    task: u16,
+    at: usize,
+    ran: bool,
+    state: &[u8],
+    cpu: &[u8],
+    rows: &[u16],
+) -> Option<u16>
     requires task_lt_task_places { task < task_places }
     requires reading { (m : Machine) × (Reading m cpu.now rows.now (levels_of m) × (state.now ≡ m.state)) }
-    ensures { (m : Machine) → Reading m cpu.now rows.now (levels_of m) → state.now ≡ m.state → result ≡ new_since task at ran m }
+    ensures { (m : Machine) → Reading m cpu.now rows.now (levels_of m) → state.now ≡ m.state → result ≡ coded (new_since task at ran m) }
 {
     let own = task as usize;
     if state[own] != RUNNABLE {
-        return NOTHING;
+        return None;
     }
     let now = cpu[own] as usize;
     let start = now * PLACES;
     if rows[start] != task {
-        return task;
+        return Some(task);
     }
     if ran & (at == now) {
-        return NOTHING;
+        return None;
     }
-    rows[start + 1]
+    task_in(rows[start + 1])
 }

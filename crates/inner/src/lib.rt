@@ -9,11 +9,14 @@ ghost use Rattle.rules.specs.Events.{event as numbers};
 ghost use Rattle.laws.specs.Still.{Still};
 ghost use Rattle.lenttables.specs.Lent.{lent};
 
-use cpupri::record::{CPUS, LEVELS, WORDS};
+use cpupri::record::{CPUS, LEVELS, Record, WORDS};
+use handling::handle;
+use plans::event::Event;
+use rules::answer::ACCEPTED;
 
 // One event on tables that pass the check, and pass it again afterwards: 0 with the number of moves, or a refusal,
 // 3 to 12, with 0 moves, which changes nothing. `settled` says that no task is movable, as on fresh tables and after an
-// accepted event.
+// accepted event. The record is lent as its four tables: copied in, and back.
 #[unsafe(no_mangle)]
 pub extern "C" fn qoriwesh_inner_event(
     settled: bool,
@@ -43,7 +46,8 @@ pub extern "C" fn qoriwesh_inner_event(
 ) -> u8
     requires log_value { let r = lent_record masks.old tallies.old words.old levels.old in
         checked n r (lent full state.old policy.old prio.old cpu.old slice.old mask.old rows.old counts.old flags.old online.old log.old) ≡ 0 }
-    requires still { settled ≡ true → Still n (lent full state.old policy.old prio.old cpu.old slice.old mask.old rows.old counts.old flags.old online.old log.old) }
+    requires still { settled ≡ true → Still n
+        (lent full state.old policy.old prio.old cpu.old slice.old mask.old rows.old counts.old flags.old online.old log.old) }
     ensures as_ruled { let r = lent_record masks.old tallies.old words.old levels.old in
         let q = lent_record masks.new tallies.new words.new levels.new in
         let s = lent full state.old policy.old prio.old cpu.old slice.old mask.old rows.old counts.old flags.old online.old log.old in
@@ -58,10 +62,36 @@ pub extern "C" fn qoriwesh_inner_event(
         let t = lent full state.new policy.new prio.new cpu.new slice.new mask.new rows.new counts.new flags.new online.new log.new in
         (Still n s → Still n t) }
 {
-    let done = handling::handle(
-        settled, n, state, policy, prio, cpu, slice, mask, rows, counts, flags, online, log, masks,
-        tallies, words, levels, full, kind, who, a, b, k,
+    let mut record = Record {
+        masks: *masks,
+        counts: *tallies,
+        words: *words,
+        levels: *levels,
+    };
+    let event = Event {
+        kind,
+        who,
+        a,
+        b,
+        mask: k,
+    };
+    let lent = &mut record;
+    let done = handle(
+        settled, n, state, policy, prio, cpu, slice, mask, rows, counts, flags, online, log, lent,
+        full, event,
     );
-    *moves = done.moves;
-    done.answer
+    *masks = record.masks;
+    *tallies = record.counts;
+    *words = record.words;
+    *levels = record.levels;
+    match done {
+        Ok(count) => {
+            *moves = count;
+            ACCEPTED
+        }
+        Err(refusal) => {
+            *moves = 0;
+            refusal.number()
+        }
+    }
 }

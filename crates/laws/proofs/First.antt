@@ -3,14 +3,17 @@
 use mathlib.Core.Path.{◌≡◌, refl, sym, ◌∙◌}
 use mathlib.Core.Bool.{Bool, true, false, cond, false≢true}
 use mathlib.Core.Logic.{inl, inr, ⊎_elim}
-use mathlib.Core.List.{List, [], ◌∷◌}
-use mathlib.Core.Option.{Option, none, some}
+use mathlib.Core.List.{List, [], ◌∷◌, map}
+use mathlib.Core.Option as maybe
+use mathlib.Core.Option.{none, some}
 use Prim.Native.Nat.{ℕ, zero, suc, ◌≤◌, ◌<◌}
 use native.Mathlib.Omega.{arith}
-use lib.Dec.{ltb}
+use Rattle.std.specs.Prelude.{Option, None, Some, Err}
 use Rattle.levels.specs.declared.record.Record.{Record}
-use Rattle.cpupri.specs.Found.{answer_of, allowed_at, lowest_level, occupied_below, lowest_found, find_checks, unless, found}
-use Rattle.cpupri.specs.declared.find.Found.TheVariants.{Cpus, Nothing}
+use Rattle.refusal.specs.Answers.{number_of}
+use Rattle.cpupri.specs.Found.{Test, told, answer_of, lowest_found, find_tests, numbered, find_checks, tested, found}
+use Rattle.cpupri.specs.declared.find.Found.{Found}
+use Rattle.cpupri.specs.declared.find.Lowest.{Lowest}
 use Rattle.rules.specs.Machine.{Machine}
 use Rattle.rules.specs.Events.{Event, Kind, kind_of, by_kind}
 use Rattle.rules.specs.Events.{add, remove, wake, sleep, set_priority, set_affinity, tick, yield, set_ordinary, take_offline, bring_online}
@@ -70,7 +73,7 @@ none_applies low (c ∷ cs) p up h j a =
 
 -- ---- an event's checks
 
-rising : (n : ℕ) (r : Record) (s : Tables) (m : Machine) (e : Event) (o : Option Kind) → Rising 1 (size_check n s ∷ form_check n r s ∷ by_kind (no_kind ∷ []) (checks m e) o)
+rising : (n : ℕ) (r : Record) (s : Tables) (m : Machine) (e : Event) (o : maybe.Option Kind) → Rising 1 (size_check n s ∷ form_check n r s ∷ by_kind (no_kind ∷ []) (checks m e) o)
 rising n r s m e none = omega arith
 rising n r s m e (some add) = omega arith
 rising n r s m e (some remove) = omega arith
@@ -112,19 +115,27 @@ module _ (n : ℕ) (r : Record) (s : Tables) (e : Event) where
 
 -- ---- the finder's
 
+told_number : (read : ℕ) (o : Option Lowest) → (told read o).number ≡ 0
+told_number read None = refl
+told_number read (Some l) = refl
+
+tested_number : (ts : List Test) (f : Found) → (answer_of (tested ts f)).number ≡ first_failing (map numbered ts)
+unfolding tested first_failing
+tested_number [] f = told_number f.read f.lowest
+tested_number (t ∷ ts) f = go t.fails (tested_number ts f)
+  where
+    go : (b : Bool) → (answer_of (tested ts f)).number ≡ first_failing (map numbered ts)
+        → (answer_of (cond b (Err t.refusal) (tested ts f))).number ≡ cond b (number_of t.refusal) (first_failing (map numbered ts))
+    go true later = refl
+    go false later = later
+
 module _ (n : ℕ) (r : Record) (level mask : ℕ) where
   find_number : (answer_of (found n r level mask)).number ≡ first_failing (find_checks n r level mask)
-  unfolding found lowest_found
-  find_number = go (first_failing (find_checks n r level mask)) (ltb (lowest_level r.masks level mask) level)
-    where
-      go : (a : ℕ) (b : Bool) → let l = lowest_level r.masks level mask in
-          (answer_of (unless a (cond b (Cpus l (allowed_at r.masks mask l) (occupied_below r.masks (suc l))) (Nothing (occupied_below r.masks level))))).number ≡ a
-      go zero true = refl
-      go zero false = refl
-      go (suc a) b = refl
+  unfolding found
+  find_number = tested_number (find_tests n r level mask) (lowest_found r.masks level mask)
 
   rise : Rising 1 (find_checks n r level mask)
-  unfolding find_checks
+  unfolding find_tests
   rise = omega arith
 
   pub find_refused_first : (k : ℕ) → 0 < k → (answer_of (found n r level mask)).number ≡ k → First k (find_checks n r level mask)

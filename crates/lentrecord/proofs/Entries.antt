@@ -4,6 +4,8 @@ use mathlib.Core.Path.{◌≡◌, sym, ap, ◌∙◌}
 use mathlib.Core.Bool.{Bool, true, false, cond}
 use Prim.Native.Nat.{ℕ}
 use native.Mathlib.Omega.{arith}
+use Rattle.std.specs.Prelude.{Result}
+use Rattle.refusal.specs.declared.Refusal.{Refusal}
 use Rattle.cpupri.specs.Found as finder
 use Rattle.cpupri.specs.declared.find.Found.{Found}
 use Rattle.levels.specs.declared.record.Record.{Record}
@@ -58,7 +60,7 @@ handled_fit n a k r q t u s z e h read same written =
     ap (λ (x : Record). result_of a k x z) written ∙ same ∙ ap (λ (x : Record). entry.handled n x s e) read ∙ sym (at_true (entry.handled n r s e) (entry.kept bad_size r s) h)
 
 -- the finder reads what was lent where it is
-pub found_fit : (n : ℕ) (r : Record) (level mask : ℕ) (a : Found) → lent_fits r ≡ true → a ≡ finder.found n r level mask → finder.answer_of a ≡ lent_found n r level mask
+pub found_fit : (n : ℕ) (r : Record) (level mask : ℕ) (a : Result Found Refusal) → lent_fits r ≡ true → a ≡ finder.found n r level mask → finder.answer_of a ≡ lent_found n r level mask
 unfolding lent_found
 found_fit n r level mask a h same =
     ap finder.answer_of same ∙ sym (at_true (finder.answer_of (finder.found n r level mask)) (finder.without bad_size 0) h)

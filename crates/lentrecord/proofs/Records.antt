@@ -3,15 +3,12 @@
 use mathlib.Core.Path.{◌≡◌, ap, ◌∙◌}
 use mathlib.Core.Bool.{true, ◌&&◌}
 use mathlib.Core.List.{List}
-use Prim.Native.Nat.{ℕ, ◌^◌, ◌<◌}
+use Prim.Native.Nat.{ℕ}
 use lib.Dec.{eqb}
-use lib.ListN.{length, get_or}
 use borrow.Author.Tests.{eqb-true}
 use Rattle.bits.proofs.Tests.{and_left, and_right}
 use Rattle.cpupri.specs.Level.{level_count, word_count, cpu_places}
-use Rattle.cpupri.specs.Consistent as consistent
-use Rattle.levels.specs.declared.record.Record.{Record}
-use Rattle.lentrecord.specs.Lent.{lent_record, record_lengths_fit, lent_fits}
+use Rattle.lentrecord.specs.Lent.{lent_record, record_lengths_fit}
 
 pub record Sized (m c w l : ℕ) : Type 0 where
   pub masks : m ≡ level_count
@@ -34,12 +31,6 @@ sized m c w l h =
       words = eqb-true w word_count (and_right (a && b) d abd);
       levels = eqb-true l cpu_places (and_right (a && b && d) e h);
     }
-
--- a record of these lengths, of words of 64 bits, is what the type of a record says
-pub as_typed : (r : Record) → lent_fits r ≡ true → ((l : ℕ) → get_or r.masks l 0 < 2 ^ 64) → ((i : ℕ) → get_or r.words i 0 < 2 ^ 64) → consistent.Sized r
-as_typed r h mask word =
-    let s = sized (length r.masks) (length r.counts) (length r.words) (length r.levels) h in
-    record { masks = s.masks; counts = s.counts; words = s.words; levels = s.levels; mask = mask; word = word }
 
 pub same_record : {m m' c c' w w' l l' : List ℕ} → m ≡ m' → c ≡ c' → w ≡ w' → l ≡ l' → lent_record m c w l ≡ lent_record m' c' w' l'
 same_record {m} {m'} {c} {c'} {w} {w'} {l} {l'} p q r s =

@@ -1,4 +1,5 @@
-// The ten tables that a caller lends, their lengths, and the full slice.
+// The ten tables that a caller lends, their lengths, and the full slice. They are parameters of their own wherever they are lent: C lends them one
+// by one, and of one struct of references no call could be lent two (the borrow rules behind a proof do not cover it), nor could it be passed on.
 #![tactic(auto)]
 
 ghost use Rattle.std.specs.Prelude.{◌≡◌, ℕ};

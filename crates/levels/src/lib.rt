@@ -2,6 +2,5 @@
 // touches a constant number of places.
 #![tactic(auto)]
 
-pub mod lent;
 pub mod level;
 pub mod record;

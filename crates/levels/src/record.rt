@@ -1,9 +1,8 @@
-// The CPU-priority record (the kernel's struct cpupri), handed in and back whole.
+// The CPU-priority record (the kernel's struct cpupri).
 ghost use Rattle.std.specs.Prelude.{◌≡◌, true, ◌≤◌, ◌<◌, set};
 ghost use Rattle.levels.specs.Level.{known, cpu_places};
 ghost use Rattle.levels.specs.Record.{record_of, fresh_levels, Whole};
 
-use super::lent;
 use super::level::Level;
 
 pub const LEVELS: usize = 102;
@@ -30,38 +29,44 @@ impl Record {
         requires { n ≤ cpu_places }
         ensures { result ≡ record_of (fresh_levels n) }
     {
-        let invalid = Level::INVALID;
         let mut r = Record {
             masks: [0; LEVELS],
             counts: [0; LEVELS],
             words: [0; WORDS],
-            levels: [invalid.number; CPUS],
+            levels: [Level::INVALID.number; CPUS],
         };
-        let mut cpu = 0;
-        while cpu < n {
-            r = r.set_level(cpu, Level::IDLE);
-            cpu += 1;
+        for cpu in 0..n {
+            r.set_level(cpu, Level::IDLE);
         }
         r
     }
 
-    // The record with the CPU at another level. Either level may be INVALID.
-    pub fn set_level(self, cpu: usize, level: Level) -> Record
-        requires whole { Whole self }
+    // The CPU goes to another level: out of the old level's mask, count and bit, and into the new one's. Either
+    // level may be INVALID.
+    pub fn set_level(&mut self, cpu: usize, level: Level)
+        requires whole { Whole self.old }
         requires cpu_lt_cpu_places { cpu < cpu_places }
         requires number_value { known level.number ≡ true }
-        ensures { result ≡ record_of (set self.levels cpu level.number) }
+        ensures { self.new ≡ record_of (set self.old.levels cpu level.number) }
     {
-        let mut masks = self.masks;
-        let mut counts = self.counts;
-        let mut words = self.words;
-        let mut levels = self.levels;
-        lent::set_level(&mut masks, &mut counts, &mut words, &mut levels, cpu, level);
-        Record {
-            masks,
-            counts,
-            words,
-            levels,
+        // out of the old level
+        let old = self.levels[cpu];
+        if old != Level::INVALID.number {
+            let o = old as usize;
+            self.masks[o] = bits::clear_bit(self.masks[o], cpu);
+            let count = self.counts[o] - 1;
+            self.counts[o] = count;
+            self.words[o / 64] = bits::put_bit(self.words[o / 64], o % 64, count != 0);
+            self.levels[cpu] = Level::INVALID.number;
         }
+        // and into the new one
+        if level == Level::INVALID {
+            return;
+        }
+        let l = level.number as usize;
+        self.masks[l] = bits::set_bit(self.masks[l], cpu);
+        self.counts[l] += 1;
+        self.words[l / 64] = bits::set_bit(self.words[l / 64], l % 64);
+        self.levels[cpu] = level.number;
     }
 }

@@ -3,29 +3,31 @@
 #![tactic(auto)]
 
 ghost use Rattle.std.specs.Prelude.{◌≡◌};
-ghost use Rattle.levels.specs.Record.{lent_record};
-ghost use Rattle.cpupri.specs.Consistent.{Sized};
+ghost use Rattle.rules.specs.Answers.{answer_of};
 ghost use Rattle.rules.specs.Entry.{result_of, checked, handled};
-ghost use Rattle.rules.specs.Events.{effect, event as numbers};
+ghost use Rattle.rules.specs.Events.{effect};
 ghost use Rattle.rules.specs.LentDemand3.{LentDemand3};
 ghost use Rattle.rules.specs.Tables.{machine_of};
 ghost use Rattle.lenttables.specs.Lent.{lent};
+ghost use Rattle.plans.specs.Decided.{as_event};
+ghost use Rattle.handling.specs.Moves.{moves_of};
 
 use checker::check::check_lent;
-use cpupri::record::{CPUS, LEVELS, Record, WORDS};
-use handling::Handled;
-pub use handling::handle;
+use cpupri::record::Record;
+use handling::handle;
+use plans::event::Event;
+use rules::answer::Refusal;
 
-// The answer to an event: 0 and the number of moves, or a refusal, which changes nothing; and the record handed back.
+// The number of moves, or a refusal; and the record, as it was handed in on a refusal.
 #[derive(Clone, Copy)]
 pub struct Outcome {
-    pub answer: u8,
-    pub moves: u32,
+    pub answer: Result<u32, Refusal>,
     pub record: Record,
 }
 
 // One event on any tables, with a full slice of so many ticks. Refused with the first number that applies: 1 (N, the
-// full slice or a table's length), 2 (the tables or the record are not well-formed), 3 to 12 (the event).
+// full slice or a table's length), 2 (the tables or the record are not well-formed), 3 to 12 (the event). The record is handed in and back whole,
+// by value: so the project rules it for the public entries.
 pub fn event(
     n: usize,
     full: u32,
@@ -40,29 +42,20 @@ pub fn event(
     flags: &mut [u8],
     online: &mut u64,
     log: &mut [u16],
-    kind: u32,
-    who: u32,
-    a: u32,
-    b: u32,
-    k: u64,
     record: Record,
+    event: Event,
 ) -> Outcome
     ensures as_ruled { let s = lent full state.old policy.old prio.old cpu.old slice.old mask.old rows.old counts.old flags.old online.old log.old in
         let t = lent full state.new policy.new prio.new cpu.new slice.new mask.new rows.new counts.new flags.new online.new log.new in
-        let e = numbers kind who a b k in
-        result_of result.answer result.moves result.«record» t ≡ handled n «record» s e }
+        result_of (answer_of result.answer) (moves_of result.answer) result.«record» t ≡ handled n «record» s (as_event event) }
     ensures demand3_holds { let s = lent full state.old policy.old prio.old cpu.old slice.old mask.old rows.old counts.old flags.old online.old log.old in
         let t = lent full state.new policy.new prio.new cpu.new slice.new mask.new rows.new counts.new flags.new online.new log.new in
-        let e = numbers kind who a b k in
-        (result.answer ≡ 0 → LentDemand3 n result.moves (effect e (machine_of n s)) t) }
+        (answer_of result.answer ≡ 0 → LentDemand3 n (moves_of result.answer) (effect (as_event event) (machine_of n s)) t) }
     ensures leaves_well_formed { let t = lent full state.new policy.new prio.new cpu.new slice.new mask.new rows.new counts.new flags.new online.new log.new in
-        (result.answer ≡ 0 → checked n result.«record» t ≡ 0) }
+        (answer_of result.answer ≡ 0 → checked n result.«record» t ≡ 0) }
 {
-    let mut masks = record.masks;
-    let mut tallies = record.counts;
-    let mut words = record.words;
-    let mut levels = record.levels;
-    let done = event_lent(
+    let mut record = record;
+    let answer = event_lent(
         n,
         full,
         state,
@@ -76,30 +69,13 @@ pub fn event(
         flags,
         online,
         log,
-        &mut masks,
-        &mut tallies,
-        &mut words,
-        &mut levels,
-        kind,
-        who,
-        a,
-        b,
-        k,
+        &mut record,
+        event,
     );
-    let after = Record {
-        masks,
-        counts: tallies,
-        words,
-        levels,
-    };
-    Outcome {
-        answer: done.answer,
-        moves: done.moves,
-        record: after,
-    }
+    Outcome { answer, record }
 }
 
-// The same with a record that is lent as its four tables.
+// The same of a record that is lent.
 pub fn event_lent(
     n: usize,
     full: u32,
@@ -114,41 +90,21 @@ pub fn event_lent(
     flags: &mut [u8],
     online: &mut u64,
     log: &mut [u16],
-    masks: &mut [u64; LEVELS],
-    tallies: &mut [u8; LEVELS],
-    words: &mut [u64; WORDS],
-    levels: &mut [u8; CPUS],
-    kind: u32,
-    who: u32,
-    a: u32,
-    b: u32,
-    k: u64,
-) -> Handled
-    requires { Sized (lent_record masks.old tallies.old words.old levels.old) }
-    ensures as_ruled { let r = lent_record masks.old tallies.old words.old levels.old in
-        let q = lent_record masks.new tallies.new words.new levels.new in
-        let s = lent full state.old policy.old prio.old cpu.old slice.old mask.old rows.old counts.old flags.old online.old log.old in
+    record: &mut Record,
+    event: Event,
+) -> Result<u32, Refusal>
+    ensures as_ruled { let s = lent full state.old policy.old prio.old cpu.old slice.old mask.old rows.old counts.old flags.old online.old log.old in
         let t = lent full state.new policy.new prio.new cpu.new slice.new mask.new rows.new counts.new flags.new online.new log.new in
-        let e = numbers kind who a b k in
-        result_of result.answer result.moves q t ≡ handled n r s e }
+        result_of (answer_of result) (moves_of result) «record».new t ≡ handled n «record».old s (as_event event) }
     ensures demand3_holds { let s = lent full state.old policy.old prio.old cpu.old slice.old mask.old rows.old counts.old flags.old online.old log.old in
         let t = lent full state.new policy.new prio.new cpu.new slice.new mask.new rows.new counts.new flags.new online.new log.new in
-        let e = numbers kind who a b k in
-        (result.answer ≡ 0 → LentDemand3 n result.moves (effect e (machine_of n s)) t) }
-    ensures leaves_well_formed { let q = lent_record masks.new tallies.new words.new levels.new in
-        let t = lent full state.new policy.new prio.new cpu.new slice.new mask.new rows.new counts.new flags.new online.new log.new in
-        (result.answer ≡ 0 → checked n q t ≡ 0) }
+        (answer_of result ≡ 0 → LentDemand3 n (moves_of result) (effect (as_event event) (machine_of n s)) t) }
+    ensures leaves_well_formed { let t = lent full state.new policy.new prio.new cpu.new slice.new mask.new rows.new counts.new flags.new online.new log.new in
+        (answer_of result ≡ 0 → checked n «record».new t ≡ 0) }
 {
-    let number = check_lent(
-        n, full, state, policy, prio, cpu, slice, mask, rows, counts, flags, online, log, masks,
-        tallies, words, levels,
-    );
-    if number != 0 {
-        return Handled {
-            answer: number,
-            moves: 0,
-        };
-    }
+    check_lent(
+        n, full, state, policy, prio, cpu, slice, mask, rows, counts, flags, online, log, record,
+    )?;
     handle(
         false, // not known: the check does not say whether the tables are settled
         n,
@@ -163,15 +119,8 @@ pub fn event_lent(
         flags,
         online,
         log,
-        masks,
-        tallies,
-        words,
-        levels,
+        record,
         full as u16,
-        kind,
-        who,
-        a,
-        b,
-        k,
+        event,
     )
 }

@@ -2,12 +2,10 @@
 -- a parameter: who can move, or which CPUs are below each level.
 -- Assumes nothing.
 use mathlib.Core.Path.{◌≡◌, refl, sym, ap, ◌∙◌, subst}
-use mathlib.Core.Bool.{Bool, cond}
 use mathlib.Core.List.{List, [], ◌∷◌, ◌++◌}
 use mathlib.Core.Option.{some, none}
 use Prim.Native.Nat.{ℕ, suc, ◌+◌, ◌*◌, ◌≤◌, ◌<◌}
 use native.Mathlib.Omega.{arith}
-use borrow.Author.Tests.{eq-eqb, ne_eqb}
 use lib.ListN.{length, get_or, set, length-append, length-map}
 use lib.Seq.{sets}
 use Rattle.cpupri.specs.Record.{record_of}
@@ -15,7 +13,7 @@ use Rattle.levels.specs.declared.record.Record.{Record}
 use Rattle.rules.specs.Machine.{Machine, running, task_places}
 use Rattle.rules.specs.Migration.{Move, Chosen, Settled, next, migrate, settle_all}
 use Rattle.rules.specs.Outcome.{entry_numbers, entry_width, log_numbers, logged}
-use Rattle.rules.specs.Tables.{flat_of, log_places, nothing}
+use Rattle.rules.specs.Tables.{flat_of, log_places}
 use Rattle.rules.specs.WellFormed.{WellFormed}
 use Rattle.laws.proofs.Choice.{chosen}
 use Rattle.laws.proofs.Log.{length_logged, logged_snoc}
@@ -24,19 +22,12 @@ use Rattle.laws.proofs.Step.{origin_small}
 use Rattle.laws.specs.Limited.{or_nothing}
 use Rattle.laws.proofs.Tables.{length_flat, flat_first}
 use Rattle.placement.specs.Held.{Held}
-use Rattle.choosing.specs.Choosing.{Choosing, Watching, step_of}
+use Rattle.std.specs.Prelude.{Option, Some, None}
+use Rattle.choosing.specs.Choosing.{Choosing, Watching, as_move}
 use Rattle.movelog.specs.Entry.{move_by}
 use Rattle.movelog.specs.declared.Step.{Step}
 use Rattle.migration.specs.Settling.{Settling, Ended}
 use Rattle.migration.proofs.Taken.{Taken, begin, onto, taken_well, taken_few, taken_n, taken_all}
-
--- ---- the step that was chosen
-
-pub step_none : (s : Step) → s.task ≡ nothing → step_of s ≡ none
-step_none s e = ap (λ (b : Bool). cond b none (some (move_by s))) (eq-eqb s.task nothing e)
-
-pub step_some : (s : Step) → (s.task ≡ nothing → ⊥) → step_of s ≡ some (move_by s)
-step_some s n = ap (λ (b : Bool). cond b none (some (move_by s))) (ne_eqb s.task nothing n)
 
 -- ---- no step
 
@@ -50,7 +41,7 @@ none_taken {m} {ps} {cs} {ms} {ks} {flat} {old} {r} s h =
 -- ---- what a step is chosen from
 
 pub to_choose : {m : Machine} {n : ℕ} {ps cs ms ks flat : List ℕ} {r : Record} → Settling m ps cs ms ks flat r → n ≡ m.n
-    → Choosing m n ps cs ms ks flat r.masks r.words r.levels
+    → Choosing m n ps cs ms ks flat r
 unfolding record_of
 to_choose s h =
     record {
@@ -62,7 +53,7 @@ to_choose s h =
       levels = ap (λ (q : Record). q.levels) s.held.levels;
     }
 
-pub to_watch : {m : Machine} {n : ℕ} {ps cs ms ks flat : List ℕ} {r : Record} → Settling m ps cs ms ks flat r → n ≡ m.n → Watching m n ps ks flat r.masks r.words
+pub to_watch : {m : Machine} {n : ℕ} {ps cs ms ks flat : List ℕ} {r : Record} → Settling m ps cs ms ks flat r → n ≡ m.n → Watching m n ps ks flat r
 unfolding record_of
 to_watch s h =
     record {
@@ -111,8 +102,12 @@ module _ {m : Machine} (w : WellFormed m) {ps cs ms ks flat old log : List ℕ} 
   more_few {v} n = omega (arith, taken_few w (onto g.taken n), length-append g.steps (v ∷ []), g.moves)
 
   -- the step that was chosen applies
-  pub applies : (s : Step) → step_of s ≡ next e → (s.task ≡ nothing → ⊥) → next e ≡ some (move_by s)
-  applies s is n = sym is ∙ step_some s n
+  pub applies : (o : Option Step) (s : Step) → as_move o ≡ next e → o ≡ Some s → next e ≡ some (move_by s)
+  applies o s is n = sym is ∙ ap as_move n
+
+  -- or none does
+  pub none_applies : (o : Option Step) → as_move o ≡ next e → o ≡ None → next e ≡ none
+  none_applies o is n = sym is ∙ ap as_move n
 
   module _ {v : Move} (n : next e ≡ some v) where
     pub takes : Chosen e v
@@ -125,7 +120,7 @@ module _ {m : Machine} (w : WellFormed m) {ps cs ms ks flat old log : List ℕ} 
     origin_low = subst (λ (i : ℕ). v.origin < i) same_n (origin_small e v here takes)
 
   -- what the next step is chosen from
-  pub choosing : {n : ℕ} → n ≡ m.n → Choosing e n ps cs ms ks flat r.masks r.words r.levels
+  pub choosing : {n : ℕ} → n ≡ m.n → Choosing e n ps cs ms ks flat r
   choosing h = to_choose (record { well = here; held = g.held; cpus = g.cpus; masks = g.masks }) (h ∙ sym same_n)
 
   -- no step applies: the steps have ended

@@ -1,7 +1,7 @@
 -- The search along the rows: what the lent tables say of a row, and how one more row changes the best of those that pass the test.
 -- Assumes nothing.
 use mathlib.Core.Path.{◌≡◌, refl, sym, ap, ◌∙◌, subst}
-use mathlib.Core.Bool.{Bool, true, false, cond, not, ◌&&◌, ◌||◌, false≢true}
+use mathlib.Core.Bool.{Bool, true, false, not, ◌&&◌, false≢true}
 use mathlib.Core.Logic.{◌≢◌, ◌⊎◌, inl, inr}
 use mathlib.Core.List.{List, [], ◌∷◌, tail}
 use Prim.Native.Nat.{ℕ, zero, suc, ◌+◌, ◌-◌, ◌*◌, ◌≤◌, ◌<◌}
@@ -10,9 +10,8 @@ use native.Mathlib.Omega.{arith}
 use lib.Arith.{lt_of_le-ne}
 use lib.Bits.{bit_and}
 use lib.Dec.{eqb, ltb, leb}
-use lib.ListN.{length, get_or, take, drop}
-use lib.Seq.{get_or-take}
-use borrow.Author.Tests.{ltb-true, ltb-false, eqb-true, eqb-false, ne_eqb, leb-true, leb-false, le-ltb}
+use lib.ListN.{length, get_or}
+use borrow.Author.Tests.{ltb-true, ltb-false, eqb-true, eqb-false, leb-true, leb-false}
 use Rattle.bits.proofs.Tests.{and_left, and_right, and_both, fails}
 use Rattle.cpupri.specs.Level.{level_of}
 use Rattle.cpupri.specs.Record.{record_of}
@@ -28,17 +27,26 @@ use Rattle.laws.proofs.Lists.{in_there, in_get_or, occ_cons, digit_same, not_in_
 use Rattle.laws.proofs.Order.{place_lt, place_there, place_is}
 use Rattle.ranking.specs.Row.{ahead}
 use Rattle.runqueue.specs.Table.{HoldsRows, row_at}
-use Rattle.ranking.proofs.Places.{place_le, ahead_le, ahead_before, ahead_here}
-use Rattle.ranking.proofs.Held.{row_size}
-use Rattle.runqueue.proofs.Flat.{count_is, rows_fit, part_held, part_taken, place_at, as_counted}
+use Rattle.ranking.proofs.Places.{place_le, ahead_before, ahead_here}
+use Rattle.runqueue.proofs.Flat.{count_is, rows_fit, place_at, lent_tasks, tasks_row}
 use Rattle.placement.specs.Held.{Held}
 use Rattle.placement.proofs.Order.{well_formed_order, holds, read_row, cpus_counted, above}
 use Rattle.waiting.specs.Wanted.{meant, Told, passing, least, wanted, Searchable}
-use Rattle.mover.specs.Foremost.{Looking, BestOf, OnlyAbove, FirstAlone}
+use Rattle.std.specs.Prelude.{Option, Some, None}
+use Rattle.mover.specs.Foremost.{Looking, BestOf, Higher, HigherIn, OnlyAbove, FirstAlone}
+use Rattle.mover.specs.declared.pick.Above.{Above}
+use Rattle.mover.specs.declared.pick.Above.TheVariants.{Nobody, One, Several}
 use Rattle.waiting.specs.Waiting.{NextWaiting}
+use Rattle.waiting.proofs.Waiting.{until, nobody_before, until_most, until_least}
 use Rattle.mover.specs.declared.pick.Mover.{Mover}
 use Rattle.waiting.specs.declared.scan.Test.{Test}
 use Rattle.waiting.specs.declared.scan.Test.TheVariants.{Movable, Drawn}
+
+-- ---- the priority that is to be beaten
+
+abbrev pub floor_of : ℕ → Option Mover → ℕ
+floor_of least None = least
+floor_of least (Some b) = b.priority
 
 -- ---- tails
 
@@ -76,13 +84,6 @@ none_wanted p r e u i = go (length_tail r)
     go (inl s) = ap p (sym (place_is u (tail r) i)) ∙ ahead_before p (tail r) (place u (tail r)) (omega (arith, place_lt u (tail r) i))
     go (inr z) = absurd (not_in_nil u (subst (λ (q : List ℕ). In u (tail q)) z i))
 
-walk_within : (p : ℕ → Bool) (r : List ℕ) → 1 ≤ length r → suc (ahead p (tail r)) ≤ length r
-walk_within p r h = go (length_tail r)
-  where
-    go : (length r ≡ suc (length (tail r))) ⊎ (r ≡ []) → suc (ahead p (tail r)) ≤ length r
-    go (inl s) = omega (arith, ahead_le p (tail r))
-    go (inr z) = absurd (let e : length r ≡ 0 = ap length z in omega arith)
-
 tail_reach : (r : List ℕ) (at : ℕ) → suc at < length r → at < length (tail r)
 tail_reach r at l = go (length_tail r)
   where
@@ -118,17 +119,21 @@ module _ {m : Machine} {ps ms ks flat : List ℕ} (k : Looking m ps ms ks flat) 
     row_count : get_or ks c 0 ≡ length (row m c)
     row_count = count_is ks flat looking_rows c here ∙ ap length row_is
 
-    part_is_row : take (get_or ks c 0) (take task_places (drop (task_places * c) flat)) ≡ row m c
-    part_is_row = part_taken ks flat looking_rows c here ∙ row_is
+    -- the tasks of the row, as they are lent
+    tasks_are : lent_tasks flat c (get_or ks c 0) ≡ row m c
+    tasks_are = tasks_row looking_rows c here ∙ row_is
 
-    part_at : (i : ℕ) → i < get_or ks c 0 → get_or (take task_places (drop (task_places * c) flat)) i 0 ≡ get_or (row m c) i 0
-    part_at i h = sym (get_or-take (get_or ks c 0) (take task_places (drop (task_places * c) flat)) i 0 h) ∙ ap (λ (l : List ℕ). get_or l i 0) part_is_row
+    pub lent_count : length (lent_tasks flat c (get_or ks c 0)) ≡ get_or ks c 0
+    lent_count = ap length tasks_are ∙ sym row_count
 
     task_in : (i : ℕ) → i < get_or ks c 0 → In (get_or (row m c) i 0) (row_at ks flat c)
     task_in i h = subst (In (get_or (row m c) i 0)) (sym row_is) (in_get_or (row m c) i (omega (arith, row_count)))
 
     pub row_fits : c * 512 + 512 ≤ length flat
     row_fits = omega (arith, rows_fit ks flat looking_rows c here)
+
+    pub row_most : get_or ks c 0 ≤ task_places
+    row_most = omega (arith, row_count, looking_held.order.fits c)
 
     -- a task of the row, where it is stored
     stored_at : (i : ℕ) → i < get_or ks c 0 → get_or flat (c * task_places + i) 0 ≡ get_or (row m c) i 0
@@ -143,31 +148,26 @@ module _ {m : Machine} {ps ms ks flat : List ℕ} (k : Looking m ps ms ks flat) 
     stored_high i h =
         subst (λ (u : ℕ). get_or ps u 0 ≤ highest_priority) (sym (stored_at i h)) (above m ps ks flat (record_of (levels m)) looking_held c (get_or (row m c) i 0) (task_in i h)).1
 
-    -- a walk along the row's part, for any test
-    module _ (p : ℕ → Bool) (at : ℕ) (is : at ≡ suc (ahead p (tail (take (get_or ks c 0) (take (c * 512 + 512 - c * 512) (drop (c * 512) flat)))))) where
+    -- a walk along its tasks, for any test
+    module _ (p : ℕ → Bool) (at : ℕ) (is : at ≡ suc (ahead p (tail (lent_tasks flat c (get_or ks c 0))))) where
       scanned : at ≡ suc (ahead p (tail (row m c)))
-      scanned = is ∙ ap (λ (r : List ℕ). suc (ahead p (tail r))) (as_counted c (λ (s n : ℕ). take (get_or ks c 0) (take n (drop s flat)) ≡ row m c) part_is_row)
+      scanned = is ∙ ap (λ (r : List ℕ). suc (ahead p (tail r))) tasks_are
 
-      -- it ends at a place of the row, if not at its end
-      pub within : 2 ≤ get_or ks c 0 → at ≢ get_or ks c 0 → (1 ≤ at) × (at < get_or ks c 0) × (get_or ks c 0 ≤ task_places)
-      within two n =
-          let size : get_or ks c 0 ≡ length (row m c) = row_count in
-          let most : suc (ahead p (tail (row m c))) ≤ length (row m c) = walk_within p (row m c) (omega arith) in
-          (omega (arith, scanned), lt_of_le-ne (omega (arith, scanned)) n, omega (arith, looking_held.order.fits c))
+    in_tables : (i : ℕ) → i < length (row m c) → (get_or (row m c) i 0 < task_places) × (get_or ps (get_or (row m c) i 0) 0 ≤ highest_priority)
+    in_tables i h = above m ps ks flat (record_of (levels m)) looking_held c (get_or (row m c) i 0) (task_in i (omega (arith, row_count)))
 
-    -- the row's part of the table can be searched
-    pub searchable : 1 ≤ get_or ks c 0 → Searchable ps ms (take task_places (drop (task_places * c) flat)) (get_or ks c 0)
+    -- they can be searched
+    pub searchable : 1 ≤ get_or ks c 0 → Searchable ps ms (lent_tasks flat c (get_or ks c 0))
     searchable some =
-        record {
-          some = some;
-          most = let size = row_size (get_or ks c 0) (take task_places (drop (task_places * c) flat)) (part_held ks flat looking_rows c here) in
-              omega (arith, (part_held ks flat looking_rows c here).most);
+        subst (Searchable ps ms) (sym tasks_are)
+        (record {
+          some = omega (arith, row_count);
           prios = ap length k.prio ∙ k.well.shape.prio;
           masks = ap length k.mask ∙ k.well.shape.mask;
-          tasks = λ i h. subst (λ (u : ℕ). u < task_places) (sym (part_at i h)) (above m ps ks flat (record_of (levels m)) looking_held c _ (task_in i h)).0;
-          high = λ i h. subst (λ (u : ℕ). get_or ps u 0 ≤ 99) (sym (part_at i h)) (above m ps ks flat (record_of (levels m)) looking_held c _ (task_in i h)).1;
-          falling = subst (λ (l : List ℕ). Falling (λ (u : ℕ). get_or ps u 0) l) (sym part_is_row) (subst (λ (qs : List ℕ). Falling (λ (u : ℕ). get_or qs u 0) (row m c)) (sym k.prio) (k.well.falling c));
-        }
+          tasks = λ i h. (in_tables i h).0;
+          high = λ i h. (in_tables i h).1;
+          falling = subst (λ (qs : List ℕ). Falling (λ (u : ℕ). get_or qs u 0) (row m c)) (sym k.prio) (k.well.falling c);
+        })
 
     module _ (u : ℕ) (i : In u (row m c)) where
       runs : (task_of m u).state ≡ runnable
@@ -198,17 +198,10 @@ module _ {m : Machine} {ps ms ks flat : List ℕ} (k : Looking m ps ms ks flat) 
       above_least (Movable low) under told t =
           let f : (c : ℕ) × (c < m.n) × (allowed m u c ≡ true) × (level m c < level_of (prio_of m u)) = movable_one m u t in
           omega (arith, told.1 f.0 f.1, f.3, fit.prio_low)
-      above_least (Drawn d l new) under told t = go (eqb new nothing) refl
-        where
-          other : (x : ℕ) (y : Bool) → x ≡ nothing → (eqb u x || y) ≡ true → y ≡ true
-          other x y e h = sym (ap (λ (b : Bool). b || y) (ne_eqb u x (λ q. a_task (q ∙ e)))) ∙ h
-
-          go : (b : Bool) → eqb new nothing ≡ b → cond b (l - level_of 0) 0 < prio_of m u
-          go true e =
-              let reach : l < level_of (prio_of m u) = ltb-true l (level_of (prio_of m u)) (and_right (bit (task_of m u).mask d) (ltb l (level_of (prio_of m u)))
-              (other new (bit (task_of m u).mask d && ltb l (level_of (prio_of m u))) (eqb-true new nothing e) t)) in
-              omega (arith, fit.prio_low)
-          go false e = fit.prio_low
+      above_least (Drawn d l None) under told t =
+          let reach : l < level_of (prio_of m u) = ltb-true l (level_of (prio_of m u)) (and_right (bit (task_of m u).mask d) (ltb l (level_of (prio_of m u))) t) in
+          omega (arith, fit.prio_low)
+      above_least (Drawn d l (Some x)) under told t = fit.prio_low
 
   module _ (test : Test) (under : List ℕ) (told : Told m test under) (c : ℕ) (hc : c < m.n) where
     -- who passes and is not wanted is not above the floor
@@ -219,32 +212,8 @@ module _ {m : Machine} {ps ms ks flat : List ℕ} (k : Looking m ps ms ks flat) 
         go true q = absurd (false≢true (sym e ∙ wanted_is c hc u i test under told floor ∙ and_both (ltb floor (prio_of m u)) (meant m test u) q t))
         go false q = ltb-false floor (prio_of m u) q
 
-    -- nothing in this row is wanted: the best stays
-    keep_best : (b : Mover) → BestOf (meant m test) m c b → ((u : ℕ) → In u (tail (row m c)) → wanted test under ps ms b.priority u ≡ false) → BestOf (meant m test) m (suc c) b
-    keep_best b best none =
-        record {
-          none = λ z. below_next c (λ (d : ℕ). (u : ℕ) → In u (tail (row m d)) → meant m test u ≡ false) (λ d h u i. best.none z d h u i)
-              (λ u i. fails (meant m test u) (λ t.
-              let low : prio_of m u ≤ b.priority = not_above b.priority u (tail_in u (row m c) i) (none u i) t in
-              let high : b.priority < prio_of m u = best.floor z c hc u i t in
-              omega arith));
-          floor = best.floor;
-          some = λ p. let f = best.some p in
-              record {
-                cpu = omega (arith, f.cpu);
-                waits = f.waits;
-                passes = f.passes;
-                prio = f.prio;
-                highest = below_next c (λ (d : ℕ). (u : ℕ) → In u (tail (row m d)) → meant m test u ≡ true → prio_of m u ≤ b.priority) (λ d h u i t. f.highest d h u i t)
-                    (λ u i t. not_above b.priority u (tail_in u (row m c) i) (none u i) t);
-                lowest_cpu = below_next c (λ (d : ℕ). (u : ℕ) → In u (tail (row m d)) → meant m test u ≡ true → b.priority ≤ prio_of m u → b.origin ≤ d) (λ d h u i t q. f.lowest_cpu d h u i t q)
-                    (λ u i t q. omega (arith, f.cpu));
-                earliest = f.earliest;
-              };
-        }
-
-    -- a task of this row is wanted, and none before it: it is the best
-    module _ (b : Mover) (best : BestOf (meant m test) m c b) (a : ℕ) (is : a ≡ ahead (wanted test under ps ms b.priority) (tail (row m c))) (in_reach : a < length (tail (row m c))) where
+    -- a task of this row is wanted, and none before it: it is the foremost there
+    module _ (floor a : ℕ) (is : a ≡ ahead (wanted test under ps ms floor) (tail (row m c))) (in_reach : a < length (tail (row m c))) where
       abbrev queue : List ℕ
       queue = tail (row m c)
 
@@ -261,14 +230,14 @@ module _ {m : Machine} {ps ms ks flat : List ℕ} (k : Looking m ps ms ks flat) 
           go (inl e) h = e
           go (inr e) h = absurd (not-suc-le-zero (subst (λ (r : List ℕ). a < length (tail r)) e h))
 
-      is_wanted : (ltb b.priority (prio_of m task) && meant m test task) ≡ true
+      is_wanted : (ltb floor (prio_of m task) && meant m test task) ≡ true
       is_wanted =
-          sym (wanted_is c hc task (tail_in task (row m c) task_waits) test under told b.priority)
-          ∙ subst (λ (i : ℕ). wanted test under ps ms b.priority (get_or queue i 0) ≡ true) (sym is)
-          (ahead_here (wanted test under ps ms b.priority) queue (subst (λ (i : ℕ). i < length queue) is in_reach))
+          sym (wanted_is c hc task (tail_in task (row m c) task_waits) test under told floor)
+          ∙ subst (λ (i : ℕ). wanted test under ps ms floor (get_or queue i 0) ≡ true) (sym is)
+          (ahead_here (wanted test under ps ms floor) queue (subst (λ (i : ℕ). i < length queue) is in_reach))
 
-      higher : b.priority < prio_of m task
-      higher = ltb-true b.priority (prio_of m task) (and_left (ltb b.priority (prio_of m task)) (meant m test task) is_wanted)
+      higher : floor < prio_of m task
+      higher = ltb-true floor (prio_of m task) (and_left (ltb floor (prio_of m task)) (meant m test task) is_wanted)
 
       -- who passes in the row and is at least as high stands at or behind it
       behind : (u : ℕ) → In u queue → meant m test u ≡ true → prio_of m task ≤ prio_of m u → a ≤ place u queue
@@ -278,11 +247,11 @@ module _ {m : Machine} {ps ms ks flat : List ℕ} (k : Looking m ps ms ks flat) 
           go true e = leb-true a (place u queue) e
           go false e =
               let before : place u queue < a = leb-false a (place u queue) e in
-              let not_wanted : wanted test under ps ms b.priority u ≡ false =
-              ap (wanted test under ps ms b.priority) (sym (place_is u queue i))
-              ∙ ahead_before (wanted test under ps ms b.priority) queue (place u queue) (subst (λ (x : ℕ). place u queue < x) is before) in
-              let low : prio_of m u ≤ b.priority = not_above b.priority u (tail_in u (row m c) i) not_wanted t in
-              absurd (let h : b.priority < prio_of m task = higher in omega arith)
+              let not_wanted : wanted test under ps ms floor u ≡ false =
+              ap (wanted test under ps ms floor) (sym (place_is u queue i))
+              ∙ ahead_before (wanted test under ps ms floor) queue (place u queue) (subst (λ (x : ℕ). place u queue < x) is before) in
+              let low : prio_of m u ≤ floor = not_above floor u (tail_in u (row m c) i) not_wanted t in
+              absurd (let h : floor < prio_of m task = higher in omega arith)
 
       -- and none is higher
       row_highest : (u : ℕ) → In u queue → meant m test u ≡ true → prio_of m u ≤ prio_of m task
@@ -299,39 +268,18 @@ module _ {m : Machine} {ps ms ks flat : List ℕ} (k : Looking m ps ms ks flat) 
               let at_task : prio_of m (get_or (row m c) (suc a) 0) ≡ prio_of m task = ap (prio_of m) (sym (get_d_tail (row m c) a)) in
               absurd (omega arith)
 
-      -- in the rows before, none is as high
-      older : (d : ℕ) → d < c → (u : ℕ) → In u (tail (row m d)) → meant m test u ≡ true → prio_of m u ≤ b.priority
-      older d h u i t = go (eqb b.task nothing) refl
-        where
-          go : (x : Bool) → eqb b.task nothing ≡ x → prio_of m u ≤ b.priority
-          go true e = absurd (false≢true (sym (best.none (eqb-true b.task nothing e) d h u i) ∙ t))
-          go false e = (best.some (eqb-false b.task nothing e)).highest d h u i t
-
-      new_best : (new : Mover) → new.task ≡ task → new.origin ≡ c → new.priority ≡ prio_of m task → BestOf (meant m test) m (suc c) new
-      new_best new et eo ep =
+      new_higher : (new : Mover) → new.task ≡ task → new.origin ≡ c → new.priority ≡ prio_of m task → Higher (meant m test) m c floor new
+      new_higher new et eo ep =
           record {
-            none = λ z. absurd (is_task z);
-            floor = λ z. absurd (is_task z);
-            some = λ p.
-                record {
-                  cpu = omega arith;
-                  waits = subst (λ (d : ℕ). In new.task (tail (row m d))) (sym eo) (subst (λ (t : ℕ). In t queue) (sym et) task_waits);
-                  passes = subst (λ (t : ℕ). meant m test t ≡ true) (sym et) (and_right (ltb b.priority (prio_of m task)) (meant m test task) is_wanted);
-                  prio = ep ∙ ap (prio_of m) (sym et);
-                  highest = below_next c (λ (d : ℕ). (u : ℕ) → In u (tail (row m d)) → meant m test u ≡ true → prio_of m u ≤ new.priority)
-                      (λ d h u i t. let low : prio_of m u ≤ b.priority = older d h u i t in omega (arith, higher))
-                      (λ u i t. let low : prio_of m u ≤ prio_of m task = row_highest u i t in omega arith);
-                  lowest_cpu = below_next c (λ (d : ℕ). (u : ℕ) → In u (tail (row m d)) → meant m test u ≡ true → new.priority ≤ prio_of m u → new.origin ≤ d)
-                      (λ d h u i t q. absurd (let low : prio_of m u ≤ b.priority = older d h u i t in let up : b.priority < prio_of m task = higher in omega arith))
-                      (λ u i t q. omega arith);
-                  earliest = subst (λ (d : ℕ). (u : ℕ) → In u (tail (row m d)) → meant m test u ≡ true → new.priority ≤ prio_of m u → place new.task (row m d) ≤ place u (row m d)) (sym eo)
-                      (λ u i t q. first u i t (omega arith));
-                };
+            origin = eo;
+            waits = subst (λ (t : ℕ). In t queue) (sym et) task_waits;
+            passes = subst (λ (t : ℕ). meant m test t ≡ true) (sym et) (and_right (ltb floor (prio_of m task)) (meant m test task) is_wanted);
+            prio = ep ∙ ap (prio_of m) (sym et);
+            above = omega (arith, higher);
+            highest = λ u i t. let low : prio_of m u ≤ prio_of m task = row_highest u i t in omega arith;
+            earliest = λ u i t q. first u i t (omega arith);
           }
         where
-          is_task : new.task ≢ nothing
-          is_task z = a_task c hc task (tail_in task (row m c) task_waits) (sym et ∙ z)
-
           first : (u : ℕ) → In u queue → meant m test u ≡ true → prio_of m task ≤ prio_of m u → place new.task (row m c) ≤ place u (row m c)
           first u i t q =
               let mine : place new.task (row m c) ≤ suc a = place_le new.task (row m c) (suc a) (sym (get_d_tail (row m c) a) ∙ sym et) in
@@ -339,68 +287,111 @@ module _ {m : Machine} {ps ms ks flat : List ℕ} (k : Looking m ps ms ks flat) 
               let its : place u (row m c) ≡ suc (place u queue) = place_tail u (row m c) (once m u c k.well) i in
               omega arith
 
-    -- the scan of the row, for a task above the best so far
-    module _ (b : Mover) (best : BestOf (meant m test) m c b) (at : ℕ)
-        (is : at ≡ suc (ahead (wanted test under ps ms b.priority) (tail (take (get_or ks c 0) (take (c * 512 + 512 - c * 512) (drop (c * 512) flat)))))) where
-      -- it came to the end: the best stays
-      pub kept : at ≡ get_or ks c 0 → BestOf (meant m test) m (suc c) b
-      kept e =
-          keep_best b best
-          (none_wanted (wanted test under ps ms b.priority) (row m c) (sym (scanned c hc (wanted test under ps ms b.priority) at is) ∙ e ∙ row_count c hc))
+    -- ---- the scan of the row, for a task above a priority
 
-      -- it ended before: the task there is the best
-      pub beaten : at < get_or ks c 0 → (new : Mover) → new.task ≡ get_or flat (c * 512 + at) 0 → new.origin ≡ c
-          → new.priority ≡ get_or ps (get_or flat (c * 512 + at) 0) 0 → BestOf (meant m test) m (suc c) new
-      beaten l new et eo ep =
-          new_best b best (at - 1) (omega (arith, here_is)) (tail_reach (row m c) (at - 1) (omega (arith, first, row_count c hc))) new (et ∙ found) eo
+    -- there is none
+    pub none_higher : (floor : ℕ)
+        → length (lent_tasks flat c (get_or ks c 0)) ≡ suc (ahead (wanted test under ps ms floor) (tail (lent_tasks flat c (get_or ks c 0))))
+        → HigherIn (meant m test) m c floor None
+    none_higher floor is u i t = not_above floor u (tail_in u (row m c) i) (unwanted u i) t
+      where
+        unwanted : (u : ℕ) → In u (tail (row m c)) → wanted test under ps ms floor u ≡ false
+        unwanted = none_wanted (wanted test under ps ms floor) (row m c) (sym (scanned c hc (wanted test under ps ms floor) _ is) ∙ ap length (tasks_are c hc))
+
+    -- the task there is it
+    module _ (floor at : ℕ) (l : at < get_or ks c 0)
+        (is : at ≡ suc (ahead (wanted test under ps ms floor) (tail (lent_tasks flat c (get_or ks c 0))))) where
+      here_is : at ≡ suc (ahead (wanted test under ps ms floor) (tail (row m c)))
+      here_is = scanned c hc (wanted test under ps ms floor) at is
+
+      first : suc (at - 1) ≡ at
+      first = omega (arith, here_is)
+
+      found : get_or flat (c * 512 + at) 0 ≡ get_or (tail (row m c)) (at - 1) 0
+      found = stored_at c hc at l ∙ ap (λ (i : ℕ). get_or (row m c) i 0) (sym first) ∙ sym (get_d_tail (row m c) (at - 1))
+
+      pub one_higher : (new : Mover) → new.task ≡ get_or flat (c * 512 + at) 0 → new.origin ≡ c
+          → new.priority ≡ get_or ps (get_or flat (c * 512 + at) 0) 0 → Higher (meant m test) m c floor new
+      one_higher new et eo ep =
+          new_higher floor (at - 1) (omega (arith, here_is)) (tail_reach (row m c) (at - 1) (omega (arith, first, row_count c hc))) new (et ∙ found) eo
           (ep ∙ ap (λ (u : ℕ). get_or ps u 0) found ∙ ap (λ (qs : List ℕ). get_or qs (get_or (tail (row m c)) (at - 1) 0) 0) k.prio)
-        where
-          here_is : at ≡ suc (ahead (wanted test under ps ms b.priority) (tail (row m c)))
-          here_is = scanned c hc (wanted test under ps ms b.priority) at is
 
-          first : suc (at - 1) ≡ at
-          first = omega (arith, here_is)
+    -- ---- the best with one row more
 
-          found : get_or flat (c * 512 + at) 0 ≡ get_or (tail (row m c)) (at - 1) 0
-          found = stored_at c hc at l ∙ ap (λ (i : ℕ). get_or (row m c) i 0) (sym first) ∙ sym (get_d_tail (row m c) (at - 1))
+    -- nobody in this row is higher: the best stays
+    pub keep_best : (best : Option Mover) (floor : ℕ) → floor ≡ floor_of (least test) best → BestOf (meant m test) m c best
+        → HigherIn (meant m test) m c floor None → BestOf (meant m test) m (suc c) best
+    keep_best None floor e old none =
+        below_next c (λ (d : ℕ). (u : ℕ) → In u (tail (row m d)) → meant m test u ≡ false) old
+        (λ u i. fails (meant m test u) (λ t.
+        let low : prio_of m u ≤ floor = none u i t in
+        let high : least test < prio_of m u = above_least c hc u (tail_in u (row m c) i) test under told t in
+        omega arith))
+    keep_best (Some b) floor e f none =
+        record {
+          cpu = omega (arith, f.cpu);
+          waits = f.waits;
+          passes = f.passes;
+          prio = f.prio;
+          highest = below_next c (λ (d : ℕ). (u : ℕ) → In u (tail (row m d)) → meant m test u ≡ true → prio_of m u ≤ b.priority) f.highest
+              (λ u i t. let low : prio_of m u ≤ floor = none u i t in omega arith);
+          lowest_cpu = below_next c (λ (d : ℕ). (u : ℕ) → In u (tail (row m d)) → meant m test u ≡ true → b.priority ≤ prio_of m u → b.origin ≤ d) f.lowest_cpu
+              (λ u i t q. omega (arith, f.cpu));
+          earliest = f.earliest;
+        }
 
-  -- before the first row: no task, and the least priority
-  pub no_best : (test : Test) (under : List ℕ) → Told m test under → (b : Mover) → b.task ≡ nothing → b.priority ≡ least test → BestOf (meant m test) m 0 b
-  no_best test under told b none low =
-      record {
-        none = λ z d h. absurd (not-suc-le-zero h);
-        floor = λ z d h u i t. subst (λ (p : ℕ). p < prio_of m u) (sym low) (above_least d h u (tail_in u (row m d) i) test under told t);
-        some = λ n. absurd (n none);
-      }
+    -- one is: it is the best
+    pub beat_best : (best : Option Mover) (floor : ℕ) → floor ≡ floor_of (least test) best → BestOf (meant m test) m c best
+        → (new : Mover) → Higher (meant m test) m c floor new → BestOf (meant m test) m (suc c) (Some new)
+    beat_best best floor e old new h =
+        record {
+          cpu = omega (arith, h.origin);
+          waits = subst (λ (d : ℕ). In new.task (tail (row m d))) (sym h.origin) h.waits;
+          passes = h.passes;
+          prio = h.prio;
+          highest = below_next c (λ (d : ℕ). (u : ℕ) → In u (tail (row m d)) → meant m test u ≡ true → prio_of m u ≤ new.priority)
+              (λ d l u i t. let low : prio_of m u ≤ floor = older best e old d l u i t in omega (arith, h.above)) h.highest;
+          lowest_cpu = below_next c (λ (d : ℕ). (u : ℕ) → In u (tail (row m d)) → meant m test u ≡ true → new.priority ≤ prio_of m u → new.origin ≤ d)
+              (λ d l u i t q. absurd (let low : prio_of m u ≤ floor = older best e old d l u i t in let up : floor < new.priority = h.above in omega arith))
+              (λ u i t q. omega (arith, h.origin));
+          earliest = subst (λ (d : ℕ). (u : ℕ) → In u (tail (row m d)) → meant m test u ≡ true → new.priority ≤ prio_of m u → place new.task (row m d) ≤ place u (row m d)) (sym h.origin)
+              h.earliest;
+        }
+      where
+        -- in the rows before none is as high
+        older : (best : Option Mover) → floor ≡ floor_of (least test) best → BestOf (meant m test) m c best
+            → (d : ℕ) → d < c → (u : ℕ) → In u (tail (row m d)) → meant m test u ≡ true → prio_of m u ≤ floor
+        older None e old d l u i t = absurd (false≢true (sym (old d l u i) ∙ t))
+        older (Some b) e f d l u i t = let low : prio_of m u ≤ b.priority = f.highest d l u i t in omega arith
 
-  -- from CPU c up to r nobody waits: the best stays
-  pub skip_best : (test : Test) (b : Mover) (c n r : ℕ) → n ≡ m.n → NextWaiting ks c n r → BestOf (meant m test) m c b → BestOf (meant m test) m r b
-  skip_best test b c n r size next best =
-      record {
-        none = λ z d l u i. best.none z d (below d l u i) u i;
-        floor = best.floor;
-        some = λ p. let f = best.some p in
-            record {
-              cpu = omega (arith, f.cpu, next.low);
-              waits = f.waits;
-              passes = f.passes;
-              prio = f.prio;
-              highest = λ d l u i. f.highest d (below d l u i) u i;
-              lowest_cpu = λ d l u i. f.lowest_cpu d (below d l u i) u i;
-              earliest = f.earliest;
-            };
-      }
+  -- before the first row none passes
+  pub no_best : (q : ℕ → Bool) → BestOf q m 0 None
+  no_best q d h = absurd (not-suc-le-zero h)
+
+  -- from CPU c up to the next on which a task waits nobody does
+  waits_below : (c n : ℕ) (o : Option ℕ) → n ≡ m.n → NextWaiting ks c n o → (d : ℕ) → d < until n o → (u : ℕ) → In u (tail (row m d)) → d < c
+  waits_below c n o size next d l u i = go (ltb d c) refl
     where
-      -- a row below r in which a task waits is below c
-      below : (d : ℕ) → d < r → (u : ℕ) → In u (tail (row m d)) → d < c
-      below d l u i = go (ltb d c) refl
-        where
-          go : (x : Bool) → ltb d c ≡ x → d < c
-          go true e = ltb-true d c e
-          go false e =
-              let few : get_or ks d 0 < 2 = next.none d l (ltb-false d c e) in
-              let size_is : get_or ks d 0 ≡ length (row m d) = row_count d (omega (arith, next.most)) in
-              absurd (short (row m d) u (omega arith) i)
+      go : (x : Bool) → ltb d c ≡ x → d < c
+      go true e = ltb-true d c e
+      go false e =
+          let few : get_or ks d 0 < 2 = nobody_before ks c n o next d l (ltb-false d c e) in
+          let size_is : get_or ks d 0 ≡ length (row m d) = row_count d (omega (arith, until_most ks c n o next)) in
+          absurd (short (row m d) u (omega arith) i)
+
+  -- the best stays
+  pub skip_best : (q : ℕ → Bool) (best : Option Mover) (c n : ℕ) (o : Option ℕ) → n ≡ m.n → c ≤ n → NextWaiting ks c n o → BestOf q m c best → BestOf q m (until n o) best
+  skip_best q None c n o size le next old = λ d l u i. old d (waits_below c n o size next d l u i) u i
+  skip_best q (Some b) c n o size le next f =
+      record {
+        cpu = omega (arith, f.cpu, until_least ks c n o le next);
+        waits = f.waits;
+        passes = f.passes;
+        prio = f.prio;
+        highest = λ d l u i. f.highest d (waits_below c n o size next d l u i) u i;
+        lowest_cpu = λ d l u i. f.lowest_cpu d (waits_below c n o size next d l u i) u i;
+        earliest = f.earliest;
+      }
 
   -- ---- who is above a level
 
@@ -426,15 +417,11 @@ module _ {m : Machine} {ps ms ks flat : List ℕ} (k : Looking m ps ms ks flat) 
       → (u : ℕ) → In u (tail (row m c)) → level_of (prio_of m u) ≤ l
   row_low c hc two l h u i = low_from c hc 1 (omega arith) l h u i (omega arith)
 
-  -- where a row's first waiting task is not above the best so far, that stays
-  pub kept_low : (test : Test) (under : List ℕ) → Told m test under → (c : ℕ) → c < m.n → 2 ≤ get_or ks c 0 → (b : Mover) → BestOf (meant m test) m c b
-      → get_or ps (get_or flat (c * task_places + 1) 0) 0 ≤ b.priority → BestOf (meant m test) m (suc c) b
-  kept_low test under told c hc two b best h =
-      keep_best test under told c hc b best
-      (λ u i. wanted_is c hc u (tail_in u (row m c) i) test under told b.priority ∙ ap (λ (x : Bool). x && meant m test u) (le-ltb b.priority (prio_of m u) (low u i)))
-    where
-      low : (u : ℕ) → In u (tail (row m c)) → prio_of m u ≤ b.priority
-      low u i = let l : level_of (prio_of m u) ≤ level_of b.priority = row_low c hc two (level_of b.priority) (omega arith) u i in omega arith
+  -- where a row's first waiting task is not above a priority, nobody there is
+  pub first_low : (q : ℕ → Bool) (c : ℕ) → c < m.n → 2 ≤ get_or ks c 0 → (floor : ℕ)
+      → get_or ps (get_or flat (c * task_places + 1) 0) 0 ≤ floor → HigherIn q m c floor None
+  first_low q c hc two floor h u i t =
+      let l : level_of (prio_of m u) ≤ level_of floor = row_low c hc two (level_of floor) (omega arith) u i in omega arith
 
   -- there is no second one, or it is not
   pub none_second : (c : ℕ) → c < m.n → get_or ks c 0 ≡ 2 → (l : ℕ) → FirstAlone m l c
@@ -452,29 +439,28 @@ module _ {m : Machine} {ps ms ks flat : List ℕ} (k : Looking m ps ms ks flat) 
       go (suc j) e = absurd (let low : level_of (prio_of m u) ≤ l = low_from c hc 2 more l h u i (omega arith) in let no : ⊥ = omega arith in no)
 
   -- before the first row there is none
-  pub none_yet : (l : ℕ) → OnlyAbove m l 0 nothing
-  none_yet l = record { waits = λ n. absurd (n refl); only = λ d h. absurd (not-suc-le-zero h) }
+  pub none_yet : (l : ℕ) → OnlyAbove m l 0 Nobody
+  none_yet l d h = absurd (not-suc-le-zero h)
 
-  module _ (l c : ℕ) (hc : c < m.n) (two : 2 ≤ get_or ks c 0) (t : ℕ) (old : OnlyAbove m l c t) where
-    further : (d : ℕ) × (d < c) × In t (tail (row m d)) → (d : ℕ) × (d < suc c) × In t (tail (row m d))
-    further w = (w.0, omega (arith, w.1), w.2)
-
+  module _ (l c : ℕ) (hc : c < m.n) (two : 2 ≤ get_or ks c 0) where
     -- nobody more in this row
-    pub row_adds_none : level_of (get_or ps (get_or flat (c * task_places + 1) 0) 0) ≤ l → OnlyAbove m l (suc c) t
-    row_adds_none h =
+    pub row_adds_none : level_of (get_or ps (get_or flat (c * task_places + 1) 0) 0) ≤ l → (a : Above) → OnlyAbove m l c a → OnlyAbove m l (suc c) a
+    row_adds_none h Nobody old = below_next c (λ (d : ℕ). (u : ℕ) → In u (tail (row m d)) → level_of (prio_of m u) ≤ l) old (row_low c hc two l h)
+    row_adds_none h (One t) old =
         record {
-          waits = λ n. further (old.waits n);
+          waits = (old.waits.0, omega (arith, old.waits.1), old.waits.2);
           only = below_next c (λ (d : ℕ). (u : ℕ) → In u (tail (row m d)) → l < level_of (prio_of m u) → u ≡ t) old.only
               (λ u i up. absurd (let low : level_of (prio_of m u) ≤ l = row_low c hc two l h u i in let no : ⊥ = omega arith in no));
         }
+    row_adds_none h Several old = tt
 
     -- this row's first waiting task alone, and nobody before
-    pub row_adds_first : t ≡ nothing → FirstAlone m l c → OnlyAbove m l (suc c) (get_or flat (c * task_places + 1) 0)
-    row_adds_first none alone =
+    pub row_adds_first : OnlyAbove m l c Nobody → FirstAlone m l c → OnlyAbove m l (suc c) (One (get_or flat (c * task_places + 1) 0))
+    row_adds_first old alone =
         record {
-          waits = λ n. (c, omega arith, subst (λ (u : ℕ). In u (tail (row m c))) (sym first) (in_get_or (tail (row m c)) 0 (some_wait (length_tail (row m c)))));
+          waits = (c, omega arith, subst (λ (u : ℕ). In u (tail (row m c))) (sym first) (in_get_or (tail (row m c)) 0 (some_wait (length_tail (row m c)))));
           only = below_next c (λ (d : ℕ). (u : ℕ) → In u (tail (row m d)) → l < level_of (prio_of m u) → u ≡ get_or flat (c * task_places + 1) 0)
-              (λ d h u i up. absurd (a_task d (omega arith) u (tail_in u (row m d) i) (old.only d h u i up ∙ none)))
+              (λ d h u i up. absurd (let low : level_of (prio_of m u) ≤ l = old d h u i in let no : ⊥ = omega arith in no))
               (λ u i up. sym (place_is u (tail (row m c)) i) ∙ ap (λ (k : ℕ). get_or (tail (row m c)) k 0) (alone u i up) ∙ sym first);
         }
       where
@@ -485,21 +471,12 @@ module _ {m : Machine} {ps ms ks flat : List ℕ} (k : Looking m ps ms ks flat) 
         some_wait (inl s) = omega (arith, row_count c hc)
         some_wait (inr z) = absurd (let size : get_or ks c 0 ≡ length (row m c) = row_count c hc in let e : length (row m c) ≡ 0 = ap length z in let no : ⊥ = omega arith in no)
 
-    -- this row's one waiting task, and nobody before
-    pub row_adds_one : t ≡ nothing → get_or ks c 0 ≡ 2 → OnlyAbove m l (suc c) (get_or flat (c * task_places + 1) 0)
-    row_adds_one none is_two = row_adds_first none (none_second c hc is_two l)
-
   -- and then some rows in which nobody waits
-  pub skip_only : (l c n r t : ℕ) → n ≡ m.n → NextWaiting ks c n r → OnlyAbove m l c t → OnlyAbove m l r t
-  skip_only l c n r t size next old =
+  pub skip_only : (l c n : ℕ) (o : Option ℕ) (a : Above) → n ≡ m.n → c ≤ n → NextWaiting ks c n o → OnlyAbove m l c a → OnlyAbove m l (until n o) a
+  skip_only l c n o Nobody size le next old = λ d h u i. old d (waits_below c n o size next d h u i) u i
+  skip_only l c n o (One t) size le next old =
       record {
-        waits = λ k. let w = old.waits k in (w.0, omega (arith, w.1, next.low), w.2);
-        only = λ d h u i up. go d h u i up (ltb d c) refl;
+        waits = (old.waits.0, omega (arith, old.waits.1, until_least ks c n o le next), old.waits.2);
+        only = λ d h u i up. old.only d (waits_below c n o size next d h u i) u i up;
       }
-    where
-      go : (d : ℕ) → d < r → (u : ℕ) → In u (tail (row m d)) → l < level_of (prio_of m u) → (x : Bool) → ltb d c ≡ x → u ≡ t
-      go d h u i up true e = old.only d (ltb-true d c e) u i up
-      go d h u i up false e =
-          let few : get_or ks d 0 < 2 = next.none d h (ltb-false d c e) in
-          let size_is : get_or ks d 0 ≡ length (row m d) = row_count d (omega (arith, next.most)) in
-          absurd (short (row m d) u (omega arith) i)
+  skip_only l c n o Several size le next old = tt

@@ -3,16 +3,15 @@
 ghost use Rattle.std.specs.Prelude.{◌≡◌, false, suc, ◌≤◌, ◌<◌, get_or};
 ghost use Rattle.rules.specs.Machine.{Machine};
 ghost use Rattle.waiting.specs.Wanted.{Asked, Told, meant};
-ghost use Rattle.mover.specs.Foremost.{Looking, BestOf, OnlyAbove, FirstAlone};
+ghost use Rattle.mover.specs.Foremost.{Looking, BestOf, HigherIn, OnlyAbove, FirstAlone};
 
 use cpupri::level::Level;
 use cpupri::record::LEVELS;
-use runqueue::row::{NOTHING, PLACES};
+use runqueue::row::PLACES;
 use waiting::cpus::{first_waiting, next_waiting};
 use waiting::scan::{Test, least, scan};
 
-// A candidate, the CPU it waits on and its priority. Task 65535: there is none, and who passes the test is
-// above this priority.
+// A candidate, the CPU it waits on and its priority.
 #[derive(Clone, Copy)]
 pub struct Mover {
     pub task: u16,
@@ -30,49 +29,47 @@ pub fn pick(
     rows: &[u16],
     counts: &[u16],
     under: &[u64; LEVELS],
-) -> Mover
+) -> Option<Mover>
     requires asked { Asked test }
     requires looking { (m : Machine) × (Looking m prio.now mask.now counts.now rows.now × (n ≡ m.n)) }
     ensures { (m : Machine) → Looking m prio.now mask.now counts.now rows.now → Told m test under.now → n ≡ m.n
         → BestOf (meant m test) m n result }
 {
-    let mut best = Mover {
-        task: NOTHING,
-        origin: 0,
-        priority: least(test),
-    };
-    let mut cpu = first_waiting(counts, n);
-    while cpu < n {
-        best = better(test, best, cpu, prio, mask, rows, counts, under);
-        cpu = next_waiting(counts, cpu + 1, n);
+    let mut best = None;
+    let mut floor = least(test);
+    let mut next = first_waiting(counts, n);
+    while let Some(cpu) = next {
+        if let Some(higher) = higher(test, floor, cpu, prio, mask, rows, counts, under) {
+            floor = higher.priority;
+            best = Some(higher);
+        }
+        next = next_waiting(counts, cpu + 1, n);
     }
     best
 }
 
-// Who waits above a level: one task (65535: none), unless there are several.
+// Who waits above a level.
 #[derive(Clone, Copy)]
-pub struct Above {
-    pub task: u16,
-    pub several: bool,
+pub enum Above {
+    Nobody,
+    One(u16),
+    // or it was not asked further
+    Several,
 }
 
 // Of a machine of n CPUs. It ends as soon as several may be.
 pub fn who_above(level: u8, n: usize, prio: &[u8], rows: &[u16], counts: &[u16]) -> Above
     requires { (m : Machine) × (Looking m prio.now m.mask counts.now rows.now × (n ≡ m.n)) }
-    ensures { (m : Machine) → Looking m prio.now m.mask counts.now rows.now → n ≡ m.n → result.several ≡ false
-        → OnlyAbove m level n result.task }
+    ensures { (m : Machine) → Looking m prio.now m.mask counts.now rows.now → n ≡ m.n → OnlyAbove m level n result }
 {
-    let mut found = Above {
-        task: NOTHING,
-        several: false,
-    };
-    let mut cpu = first_waiting(counts, n);
-    while cpu < n {
-        found = who_above_with(level, found.task, cpu, prio, rows, counts);
-        if found.several {
-            return found;
+    let mut found = Above::Nobody;
+    let mut next = first_waiting(counts, n);
+    while let Some(cpu) = next {
+        found = who_above_with(level, found, cpu, prio, rows, counts);
+        if let Above::Several = found {
+            return Above::Several;
         }
-        cpu = next_waiting(counts, cpu + 1, n);
+        next = next_waiting(counts, cpu + 1, n);
     }
     found
 }
@@ -80,26 +77,23 @@ pub fn who_above(level: u8, n: usize, prio: &[u8], rows: &[u16], counts: &[u16])
 // The same with one CPU more, on which a task waits: the first that waits there is the highest.
 fn who_above_with(
     level: u8,
-    one: u16,
+    found: Above,
     cpu: usize,
     prio: &[u8],
     rows: &[u16],
     counts: &[u16],
 ) -> Above
     requires { (m : Machine) × (Looking m prio.now m.mask counts.now rows.now × (cpu < m.n) × (2 ≤ get_or counts.now cpu 0)) }
-    ensures { (m : Machine) → Looking m prio.now m.mask counts.now rows.now → cpu < m.n → OnlyAbove m level cpu one
-        → result.several ≡ false → OnlyAbove m level (suc cpu) result.task }
+    ensures { (m : Machine) → Looking m prio.now m.mask counts.now rows.now → cpu < m.n → OnlyAbove m level cpu found
+        → OnlyAbove m level (suc cpu) result }
 {
     let first = rows[cpu * PLACES + 1];
     if Level::of_priority(prio[first as usize]).number <= level {
-        return Above {
-            task: one,
-            several: false,
-        };
+        return found;
     }
-    Above {
-        task: first,
-        several: (one != NOTHING) | second_above(level, cpu, prio, rows, counts),
+    match found {
+        Above::Nobody if !second_above(level, cpu, prio, rows, counts) => Above::One(first),
+        _ => Above::Several,
     }
 }
 
@@ -116,47 +110,34 @@ fn second_above(level: u8, cpu: usize, prio: &[u8], rows: &[u16], counts: &[u16]
     level < Level::of_priority(prio[second as usize]).number
 }
 
-// The better of the best so far and the waiting tasks of one more CPU.
-fn better(
+// The foremost of those on one CPU that are above the priority `floor`.
+fn higher(
     test: Test,
-    best: Mover,
+    floor: u8,
     cpu: usize,
     prio: &[u8],
     mask: &[u64],
     rows: &[u16],
     counts: &[u16],
     under: &[u64; LEVELS],
-) -> Mover
+) -> Option<Mover>
     requires asked { Asked test }
     requires looking { (m : Machine) × (Looking m prio.now mask.now counts.now rows.now
         × (cpu < m.n) × (2 ≤ get_or counts.now cpu 0)) }
     ensures { (m : Machine) → Looking m prio.now mask.now counts.now rows.now → Told m test under.now
-        → cpu < m.n → BestOf (meant m test) m cpu best → BestOf (meant m test) m (suc cpu) result }
+        → cpu < m.n → HigherIn (meant m test) m cpu floor result }
 {
     let start = cpu * PLACES;
-    let floor = best.priority;
     let first = rows[start + 1]; // the highest that waits there
     if prio[first as usize] <= floor {
-        return best;
+        return None;
     }
     let count = counts[cpu] as usize;
-    let at = scan(
-        test,
-        &rows[start..start + PLACES],
-        prio,
-        mask,
-        under,
-        count,
-        floor,
-    );
-    if at == count {
-        return best;
-    }
+    let at = scan(test, &rows[start..start + count], prio, mask, under, floor)?;
     let task = rows[start + at];
-    let priority = prio[task as usize];
-    Mover {
+    Some(Mover {
         task,
         origin: cpu,
-        priority,
-    }
+        priority: prio[task as usize],
+    })
 }

@@ -16,11 +16,11 @@ use Rattle.rules.specs.WellFormed.{Shape, slice_fits}
 use Rattle.laws.proofs.Entry.{lengths_shape, shape_lengths}
 use Rattle.laws.proofs.Test.{size_good, slice_good}
 use Rattle.laws.proofs.Tables.{length_rows_of}
+use Rattle.std.specs.Prelude.{Ok}
 use Rattle.recording.specs.declared.Ending.{Ending}
 use Rattle.recording.specs.declared.Ending.TheVariants.{Stopped}
-use Rattle.recording.specs.declared.First.{First}
-use Rattle.recording.specs.declared.First.TheVariants.{Opens}
-use Rattle.recording.specs.Reading.{first_of, reading, recorded_slice}
+use Rattle.recording.specs.declared.Opening.{Opening}
+use Rattle.recording.specs.Reading.{First, first_of, reading, recorded_slice}
 use Rattle.recording.specs.Replay.{Run, replay, unplayed, played_on, played, lent_for64, with_slice, part_of, around, replayed}
 
 module _ (bs : List ℕ) (r : Record) (s : Tables) where
@@ -36,12 +36,12 @@ module _ (bs : List ℕ) (r : Record) (s : Tables) where
     replay_by f e = by_lengths true h ∙ ap (played bs r s) e
 
     -- what a replay on N CPUs reports
-    pub replay_opened : (n full p : ℕ) (u : Run) (x : Ending) (q : ℕ) → first_of bs ≡ Opens n full p
-        → u ≡ played_on n full (reading p bs) r s → x ≡ (reading p bs).ending → q ≡ (reading p bs).place
-        → replay 0 x q n u.times u.moves u.refused u.cpupri (around n s u.tables) ≡ replayed bs r s
-    replay_opened n full p u x q o e f g =
-        (λ i. replay 0 (f i) (g i) n (e i).times (e i).moves (e i).refused (e i).cpupri (around n s (e i).tables))
-        ∙ sym (replay_by (Opens n full p) o)
+    pub replay_opened : (f : Opening) (u : Run) (x : Ending) (q : ℕ) → first_of bs ≡ Ok f
+        → u ≡ played_on f.n f.full (reading f.end bs) r s → x ≡ (reading f.end bs).ending → q ≡ (reading f.end bs).place
+        → replay 0 x q f.n u.times u.moves u.refused u.cpupri (around f.n s u.tables) ≡ replayed bs r s
+    replay_opened f u x q o e g h =
+        (λ i. replay 0 (g i) (h i) f.n (e i).times (e i).moves (e i).refused (e i).cpupri (around f.n s (e i).tables))
+        ∙ sym (replay_by (Ok f) o)
 
 -- ---- the parts that N CPUs use
 

@@ -1,32 +1,34 @@
 // A recording of a night replayed on a fresh machine, in tables that a caller lends for 64 CPUs.
 #![tactic(auto)]
 
-ghost use Rattle.std.specs.Prelude.{◌≡◌};
+ghost use Rattle.std.specs.Prelude.{◌≡◌, replicate};
+ghost use Rattle.levels.specs.declared.record.Record.{Record};
 ghost use Rattle.lenttables.specs.Lent.{lent};
-ghost use Rattle.recording.specs.Replay.{replay as report, replayed};
+ghost use Rattle.rules.specs.Machine.{cpu_places};
+ghost use Rattle.rules.specs.Tables.{Tables};
+ghost use Rattle.recording.specs.Replay.{unplayed, replayed};
+ghost use Rattle.night.specs.Told.{told, told_of};
 
 use cpupri::record::{CPUS, Record};
 use decoding::first::{RECORDED_SLICE, first_of};
 use fresh::play_fresh;
 use lenttables::lengths_fit;
-use recording::{Ending, First};
-use rules::answer::{ACCEPTED, BAD_SIZE};
+use recording::{Ending, Opening};
+use rules::answer::Refusal;
 use runqueue::row::PLACES;
 
 pub mod fresh;
 
-// The answer, 0 or 1; how the recording ends, and where its whole records end; N and the full slice, both 0 without a good first
-// record; the moves and the refused events; and the record handed back.
+// How the recording ends, and where its whole records end; N and the full slice, both 0 without a good first record; the moves and the
+// refused events.
 #[derive(Clone, Copy)]
 pub struct Report {
-    pub answer: u8,
     pub ending: Ending,
     pub place: usize,
     pub n: usize,
     pub full: u16,
     pub moves: u64,
     pub refused: u32,
-    pub record: Record,
 }
 
 // Replays a recording. `times` gets the microseconds that each CPU had a real-time task, 0 from N on. Rows, counts and flags beyond
@@ -45,84 +47,53 @@ pub fn replay(
     flags: &mut [u8],
     online: &mut u64,
     log: &mut [u16],
+    record: &mut Record,
     times: &mut [u64; CPUS],
-    given: Record,
-) -> Report
+) -> Result<Report, Refusal>
     ensures { let s = lent 0 state.old policy.old prio.old cpu.old slice.old mask.old rows.old counts.old flags.old online.old log.old in
-        let t = lent result.full state.new policy.new prio.new cpu.new slice.new mask.new rows.new counts.new flags.new online.new log.new in
-        report result.answer result.ending result.place result.n times.new result.moves result.refused result.«record» t ≡ replayed bytes.now given s }
+        let t = lent 0 state.new policy.new prio.new cpu.new slice.new mask.new rows.new counts.new flags.new online.new log.new in
+        told_of result times.new «record».new t ≡ replayed bytes.now «record».old s }
 {
     *times = [0; CPUS];
+    let ticks = RECORDED_SLICE as u32;
     if !lengths_fit(
-        CPUS,
-        RECORDED_SLICE as u32,
-        state,
-        policy,
-        prio,
-        cpu,
-        slice,
-        mask,
-        rows,
-        counts,
-        flags,
-        log,
+        CPUS, ticks, state, policy, prio, cpu, slice, mask, rows, counts, flags, log,
     ) {
-        return unplayed(BAD_SIZE, Ending::Stopped, given);
+        return Err(Refusal::BadSize);
     }
-    let first = first_of(bytes);
-    match first {
-        First::Missing => unplayed(ACCEPTED, Ending::Cut, given),
-        First::Bad => unplayed(ACCEPTED, Ending::Stopped, given),
-        First::Opens { n, full, end } => {
-            let places = PLACES * n;
+    match first_of(bytes) {
+        Err(ending) => Ok(unplayed(ending)),
+        Ok(Opening { n, full, end }) => {
+            let rows = &mut rows[..PLACES * n];
+            let counts = &mut counts[..n];
+            let flags = &mut flags[..n];
             let played = play_fresh(
-                bytes,
-                end,
-                n,
-                full,
-                state,
-                policy,
-                prio,
-                cpu,
-                slice,
-                mask,
-                &mut rows[..places],
-                &mut counts[..n],
-                &mut flags[..n],
-                online,
-                log,
-                times,
-                given,
+                bytes, end, n, full, state, policy, prio, cpu, slice, mask, rows, counts, flags,
+                online, log, record, times,
             );
-            let ending = played.ending;
             let course = played.course;
-            let record = played.record;
-            Report {
-                answer: ACCEPTED,
-                ending,
+            Ok(Report {
+                ending: played.ending,
                 place: played.place,
                 n,
                 full: course.full,
                 moves: course.moves,
                 refused: course.refused,
-                record,
-            }
+            })
         }
     }
 }
 
-// Nothing was replayed.
-fn unplayed(answer: u8, ending: Ending, given: Record) -> Report
-    ensures { result ≡ record { answer = answer; ending = ending; place = 0; n = 0; full = 0; moves = 0; refused = 0; «record» = given } }
+// Nothing was replayed, whatever the record and the tables are.
+fn unplayed(ending: Ending) -> Report
+    ensures { (r : Record) (s : Tables) → told result (replicate cpu_places 0) r s ≡ unplayed 0 ending r s }
 {
     Report {
-        answer,
         ending,
         place: 0,
         n: 0,
         full: 0,
         moves: 0,
         refused: 0,
-        record: given,
     }
 }

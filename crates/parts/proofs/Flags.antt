@@ -18,7 +18,7 @@ use Rattle.laws.proofs.Lists.{same?}
 use Rattle.placement.specs.Held.{InOrder, Following, followed}
 use Rattle.placement.proofs.Following.{levels_followed}
 use Rattle.placement.proofs.Order.{well_formed_order, whole as whole-held}
-use Rattle.parts.specs.Optional.{FollowingIf, Flagging}
+use Rattle.parts.specs.Optional.{Flagging}
 
 module _ {m : Machine} {qs flat ns fs : List ℕ} {on : ℕ} {r : Record} {c b : ℕ} (l : Flagging m qs flat ns fs on r c b) where
   pub flagged : length fs ≡ m.n
@@ -51,7 +51,7 @@ module _ {m : Machine} {qs flat ns fs : List ℕ} {on : ℕ} {r : Record} {c b :
   pub small : c < cpu_places
   small = omega (arith, l.cpu, l.formed.shape.cpus)
 
-  following : {fs' : List ℕ} → fs' ≡ set fs c b → is_online m c ≡ true → Following (with_flag c b m) qs fs' ns flat c
+  pub following : {fs' : List ℕ} → fs' ≡ set fs c b → is_online m c ≡ true → Following (with_flag c b m) qs fs' ns flat c
   following e up =
       record {
         queues = record { order = order; prio = refl; counts = l.counts; rows = l.rows; levels = refl };
@@ -62,9 +62,8 @@ module _ {m : Machine} {qs flat ns fs : List ℕ} {on : ℕ} {r : Record} {c b :
         online = up;
       }
 
-  pub following_if : {fs' : List ℕ} (x : Bool) → x ≡ bit on c → fs' ≡ set fs c b → FollowingIf x (with_flag c b m) qs fs' ns flat c
-  following_if true t e = record { may = following e (ap (λ (o : ℕ). bit o c) (sym l.online) ∙ sym t) }
-  following_if false t e = record { may = tt }
+  pub is_up : true ≡ bit on c → is_online m c ≡ true
+  is_up t = ap (λ (o : ℕ). bit o c) (sym l.online) ∙ sym t
 
   -- the other CPUs' levels stay, and so does that of an offline one
   others : (d : ℕ) → d ≢ c → level (with_flag c b m) d ≡ level m d

@@ -1,15 +1,12 @@
 -- A batch more of a recording: what is left to read and to run, and what it will come to.
 -- Assumes nothing.
 use mathlib.Core.Path.{◌≡◌, refl, sym, ap, subst, ◌∙◌}
-use mathlib.Core.Bool.{Bool, true, false, cond}
 use mathlib.Core.List.{List, [], ◌∷◌, ◌++◌}
-use Prim.Native.Nat.{ℕ, suc, ◌+◌, ◌-◌, ◌*◌, ◌≤◌, ◌<◌}
+use Prim.Native.Nat.{ℕ, suc, ◌+◌, ◌-◌, ◌≤◌, ◌<◌}
 use native.Mathlib.Omega.{arith}
 use lib.ListN.{length, length-take}
-use Rattle.rules.specs.Machine.{task_places}
-use Rattle.rules.specs.Tables.{Tables, log_places}
-use Rattle.rules.specs.Entry.{Good}
-use Rattle.laws.proofs.Entry.{checked_good}
+use Rattle.std.specs.Prelude.{Some, None}
+use Rattle.recording.specs.declared.Ending.{Ending}
 use Rattle.recording.specs.declared.Event.{Event}
 use Rattle.recording.specs.Reading.{Reading, ends, read_from}
 use Rattle.recording.specs.Replay.{Run, next, runs}
@@ -17,7 +14,7 @@ use Rattle.recording.proofs.Batches.{runs_append}
 use Rattle.playing.specs.Ready.{Ready}
 use Rattle.playing.proofs.Readiness.{ready_next, ready_less}
 use Rattle.decoding.specs.declared.batch.Batch.{Batch}
-use Rattle.decoding.specs.Filled.{follows, events_of, rest_of, Filled}
+use Rattle.decoding.specs.Filled.{follows, ended, events_of, rest_of, Filled}
 
 -- ---- room
 
@@ -27,6 +24,12 @@ ready_runs n left [] u r = let e : 0 + left ≡ left = omega arith in subst (λ 
 ready_runs n left (e ∷ es) u r =
     let one : suc (length es) + left ≡ suc (length es + left) = omega arith in
     ready_runs n left es (next n e u) (ready_next n (length es + left) e u (subst (λ (k : ℕ). Ready n k u) one r))
+
+-- of a batch
+pub ready_batch : (n room place : ℕ) (bs : List ℕ) (b : Batch) (u : Run) → Filled room place bs b → Ready n room u → Ready n (length (events_of b)) u
+ready_batch n room place bs b u f r =
+    let fit = f.fit in
+    ready_less n (length (events_of b)) room u (omega (arith, fit, length-take b.count b.events)) r
 
 -- ---- reading
 
@@ -74,7 +77,7 @@ module _ (n : ℕ) (bs : List ℕ) (x₀ : Reading) (u₀ : Run) (room place : �
         place = sym (ap (λ (y : Reading). y.place) read ∙ follows_place (events_of b) x) ∙ g.same.place;
       }
 
-  pub going_on : b.more ≡ true → Going n bs x₀ u₀ (room - b.count) b.place v
+  pub going_on : b.ending ≡ None → Going n bs x₀ u₀ (room - b.count) b.place v
   going_on m =
       let most : length (events_of b) ≤ b.count = omega (arith, length-take b.count b.events) in
       let fit : b.count ≤ room = f.fit in
@@ -85,49 +88,16 @@ module _ (n : ℕ) (bs : List ℕ) (x₀ : Reading) (u₀ : Run) (room place : �
             (ready_less n (room - b.count) (room - length (events_of b)) (runs n (events_of b) u) left
             (ready_runs n (room - length (events_of b)) (events_of b) u (subst (λ (k : ℕ). Ready n k u) all g.ready)));
         same = subst (λ (x : Reading). Same n x₀ u₀ x v)
-            (ap (λ (c : Bool). cond c (read_from (room - b.count) b.place bs) (ends b.ending b.place)) m) after;
+            (ap (ended b.place (read_from (room - b.count) b.place bs)) m) after;
       }
 
-  pub going_nearer : b.more ≡ true → room - b.count < room
+  pub going_nearer : b.ending ≡ None → room - b.count < room
   going_nearer m = let some : 0 < b.count = f.some m in let fit : b.count ≤ room = f.fit in omega (arith, some, fit)
 
-  pub gone : b.more ≡ false → Same n x₀ u₀ (ends b.ending b.place) v
-  gone m =
-      subst (λ (x : Reading). Same n x₀ u₀ x v)
-      (ap (λ (c : Bool). cond c (read_from (room - b.count) b.place bs) (ends b.ending b.place)) m) after
+  pub gone : (x : Ending) → b.ending ≡ Some x → Same n x₀ u₀ (ends x b.place) v
+  gone x m = subst (λ (y : Reading). Same n x₀ u₀ y v) (ap (ended b.place (read_from (room - b.count) b.place bs)) m) after
 
 -- nothing is left to run
 pub all_run : (n : ℕ) (x₀ : Reading) (u₀ v : Run) (x : Reading) → x.events ≡ [] → Same n x₀ u₀ x v → v ≡ runs n x₀.events u₀
 unfolding runs
 all_run n x₀ u₀ v x none s = ap (λ (es : List Event). runs n es v) (sym none) ∙ s.events
-
--- ---- tables that are good have their lengths
-
-pub record Lengths (n : ℕ) (s : Tables) : Type 0 where
-  pub state : length s.state ≡ task_places
-  pub policy : length s.policy ≡ task_places
-  pub prio : length s.prio ≡ task_places
-  pub cpu : length s.cpu ≡ task_places
-  pub slice : length s.slice ≡ task_places
-  pub mask : length s.mask ≡ task_places
-  pub rows : length s.rows ≡ task_places * n
-  pub counts : length s.counts ≡ n
-  pub flags : length s.flags ≡ n
-  pub log : length s.log ≡ log_places
-
-pub ready_lengths : (n left : ℕ) (u : Run) → Ready n left u → Lengths n u.tables
-ready_lengths n left u r =
-    let good : Good n u.cpupri u.tables = checked_good n u.cpupri u.tables r.good in
-    let shape = good.machine.shape in
-    record {
-      state = shape.state;
-      policy = shape.policy;
-      prio = shape.prio;
-      cpu = shape.cpu;
-      slice = shape.slice;
-      mask = shape.mask;
-      rows = good.rows;
-      counts = good.counts;
-      flags = shape.flags;
-      log = good.log;
-    }

@@ -2,14 +2,13 @@
 #![tactic(auto)]
 
 ghost use Rattle.std.specs.Prelude.{◌≡◌};
-ghost use Rattle.levels.specs.Record.{lent_record};
 ghost use Rattle.lenttables.specs.Lent.{lent};
 ghost use Rattle.recording.specs.Reading.{most_events, reading};
 ghost use Rattle.recording.specs.Replay.{run, runs};
 ghost use Rattle.playing.specs.Ready.{Ready};
 
-use batch::run_buf;
-use cpupri::record::{CPUS, LEVELS, WORDS};
+use batch::run;
+use cpupri::record::{CPUS, Record};
 use decoding::batch::fill;
 use recording::{Course, Ending, RECORDS};
 
@@ -37,47 +36,41 @@ pub fn pass(
     flags: &mut [u8],
     online: &mut u64,
     log: &mut [u16],
-    masks: &mut [u64; LEVELS],
-    tallies: &mut [u8; LEVELS],
-    words: &mut [u64; WORDS],
-    levels: &mut [u8; CPUS],
+    record: &mut Record,
     times: &mut [u64; CPUS],
     t: Course,
 ) -> Passage
     requires { let s = lent t.full state.old policy.old prio.old cpu.old slice.old mask.old rows.old counts.old flags.old online.old log.old in
-        Ready n most_events (run (lent_record masks.old tallies.old words.old levels.old) s times.old t.moves t.refused t.last) }
-    ensures fact_1 { let r = lent_record masks.old tallies.old words.old levels.old in
-        let q = lent_record masks.new tallies.new words.new levels.new in
-        let s = lent t.full state.old policy.old prio.old cpu.old slice.old mask.old rows.old counts.old flags.old online.old log.old in
+        Ready n most_events (run «record».old s times.old t.moves t.refused t.last) }
+    ensures replays { let s = lent t.full state.old policy.old prio.old cpu.old slice.old mask.old rows.old counts.old flags.old online.old log.old in
         let v = lent result.course.full state.new policy.new prio.new cpu.new slice.new mask.new rows.new counts.new flags.new online.new log.new in
         let x = reading from bytes.now in
-        run q v times.new result.course.moves result.course.refused result.course.last
-        ≡ runs n x.events (run r s times.old t.moves t.refused t.last) }
-    ensures fact_2 { let x = reading from bytes.now in
-        result.ending ≡ x.ending }
-    ensures fact_3 { let x = reading from bytes.now in
-        result.place ≡ x.place }
+        run «record».new v times.new result.course.moves result.course.refused result.course.last
+        ≡ runs n x.events (run «record».old s times.old t.moves t.refused t.last) }
+    ensures ending_is { result.ending ≡ (reading from bytes.now).ending }
+    ensures place_is { result.place ≡ (reading from bytes.now).place }
 {
     let mut place = from;
     let mut room = RECORDS - 1;
     let mut course = t;
+    // batches until one ends: their number is not known before
     loop {
         let read = fill(bytes, place, room);
-        let events = read.events;
-        let count = read.count;
-        let ending = read.ending;
-        course = run_buf(
-            events, count, n, state, policy, prio, cpu, slice, mask, rows, counts, flags, online,
-            log, masks, tallies, words, levels, times, course,
+        let events = &read.events[..read.count];
+        course = run(
+            events, n, state, policy, prio, cpu, slice, mask, rows, counts, flags, online, log,
+            record, times, course,
         );
         place = read.place;
-        if !read.more {
-            return Passage {
-                ending,
-                place,
-                course,
-            };
+        match read.ending {
+            Some(ending) => {
+                return Passage {
+                    ending,
+                    place,
+                    course,
+                };
+            }
+            None => room -= read.count,
         }
-        room -= count;
     }
 }

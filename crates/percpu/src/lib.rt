@@ -1,132 +1,148 @@
 // What happens on a CPU: kinds 7 to 11. Each has its checks in the paper's order and then its effect. `who` is the CPU; a tick and a
-// yield have in `at` the task that runs there, and in `runner` what stands in its columns.
+// yield have in `runner` the task that runs there, if one does.
 #![tactic(auto)]
 
-ghost use Rattle.std.specs.Prelude.{◌≡◌, false, ℕ, ◌≤◌};
+ghost use Rattle.std.specs.Prelude.{◌≡◌, IfOk, IfSome, IsSomeAnd, false, ℕ, ◌≤◌};
 ghost use Rattle.rules.specs.Machine.{Machine, cpu_places};
 ghost use Rattle.rules.specs.Events.{event, tick as tick_kind, yield, set_ordinary, take_offline, bring_online};
 ghost use Rattle.rules.specs.Plan.{reorder, with_slice};
-ghost use Rattle.plans.specs.Decided.{Runs, strands, DecidedAs, Shaped, Requeues, as_task};
+ghost use Rattle.plans.specs.Decided.{strands, DecidedAs, PlannedAs, PlannedOrNotAs, Requeues, as_task, as_plan};
+ghost use Rattle.percpu.specs.Running.{Runs};
 
 use plans::plan::{Decision, Plan, Task};
-use rules::{answer, task};
-use runqueue::row::PLACES;
+use rules::answer::Refusal;
+use rules::task;
+
+// A task that runs, and what stands in its columns.
+#[derive(Clone, Copy)]
+pub struct Runner {
+    pub task: u16,
+    pub columns: Task,
+}
 
 // there is ordinary work; 0: there is none
 const WORK: u32 = 1;
 
 // Kind 7: an RR task has a tick less; at 0 its slice is full again and it goes behind its equals.
 // Nothing happens to a FIFO task or to an empty row.
-pub fn tick(n: usize, online: u64, full: u16, at: usize, runner: Task, who: u32) -> Decision
+pub fn tick(
+    n: usize,
+    online: u64,
+    full: u16,
+    runner: Option<Runner>,
+    who: u32,
+) -> Result<Option<Plan>, Refusal>
     requires { n ≤ cpu_places }
-    ensures fact_1 { ((m : Machine) (kind a b k : ℕ) → n ≡ m.n → online ≡ m.online → full ≡ m.full → Runs m who at runner
-        → DecidedAs tick_kind m (event kind who a b k) result) }
-    ensures fact_2 { Shaped (λ p. ((v : ℕ) × Requeues at who (with_slice v (as_task runner)) p)) result }
+    ensures decided { ((m : Machine) (kind a b k : ℕ) → n ≡ m.n → online ≡ m.online → full ≡ m.full → Runs m who runner
+        → PlannedOrNotAs tick_kind m (event kind who a b k) result) }
+    ensures shaped { IfOk result (λ o. IfSome o (λ p. IsSomeAnd runner
+        (λ r. ((v : ℕ) × Requeues r.task who (with_slice v (as_task r.columns)) (as_plan p))))) }
 {
     let cpu = who as usize;
     if n <= cpu {
-        return Decision::Refused(answer::BAD_NUMBER);
+        return Err(Refusal::BadNumber);
     }
     if !bits::test_bit(online, cpu) {
-        return Decision::Refused(answer::WRONG_CPU_STATE);
+        return Err(Refusal::WrongCpuState);
     }
-    if PLACES <= at {
-        return Decision::Nothing;
+    let Some(runner) = runner else {
+        return Ok(None);
+    };
+    let columns = runner.columns;
+    if columns.policy != task::RR {
+        return Ok(None);
     }
-    if runner.policy != task::RR {
-        return Decision::Nothing;
-    }
-    if 1 < runner.slice {
+    if 1 < columns.slice {
         let less = Task {
-            state: runner.state,
-            policy: runner.policy,
-            prio: runner.prio,
-            cpu: runner.cpu,
-            slice: runner.slice - 1,
-            mask: runner.mask,
+            state: columns.state,
+            policy: columns.policy,
+            prio: columns.prio,
+            cpu: columns.cpu,
+            slice: columns.slice - 1,
+            mask: columns.mask,
         };
-        return Decision::Place(Plan::rewrite(at as u16, less));
+        return Ok(Some(Plan::rewrite(runner.task, less)));
     }
     let again = Task {
-        state: runner.state,
-        policy: runner.policy,
-        prio: runner.prio,
-        cpu: runner.cpu,
+        state: columns.state,
+        policy: columns.policy,
+        prio: columns.prio,
+        cpu: columns.cpu,
         slice: full,
-        mask: runner.mask,
+        mask: columns.mask,
     };
-    Decision::Place(Plan::shift(at as u16, cpu, again, cpu))
+    Ok(Some(Plan::shift(runner.task, cpu, again, cpu)))
 }
 
 // Kind 8: the first task goes behind its equals. Its slice is kept. An offline CPU has no task, and is refused as one that is
 // offline.
-pub fn yield_cpu(n: usize, online: u64, at: usize, runner: Task, who: u32) -> Decision
+pub fn yield_cpu(n: usize, online: u64, runner: Option<Runner>, who: u32) -> Result<Plan, Refusal>
     requires { n ≤ cpu_places }
-    ensures fact_1 { ((m : Machine) (kind a b k : ℕ) → n ≡ m.n → online ≡ m.online → Runs m who at runner
-        → DecidedAs yield m (event kind who a b k) result) }
-    ensures fact_2 { Shaped (λ p. p ≡ reorder false at who (as_task runner)) result }
+    ensures decided { ((m : Machine) (kind a b k : ℕ) → n ≡ m.n → online ≡ m.online → Runs m who runner
+        → PlannedAs yield m (event kind who a b k) result) }
+    ensures shaped { IfOk result (λ p. IsSomeAnd runner (λ r. as_plan p ≡ reorder false r.task who (as_task r.columns))) }
 {
     let cpu = who as usize;
     if n <= cpu {
-        return Decision::Refused(answer::BAD_NUMBER);
+        return Err(Refusal::BadNumber);
     }
     if !bits::test_bit(online, cpu) {
-        return Decision::Refused(answer::WRONG_CPU_STATE); // and not that its row is empty
+        return Err(Refusal::WrongCpuState); // and not that its row is empty
     }
-    if PLACES <= at {
-        return Decision::Refused(answer::EMPTY_ROW);
-    }
-    Decision::Place(Plan::shift(at as u16, cpu, runner, cpu))
+    let Some(runner) = runner else {
+        return Err(Refusal::EmptyRow);
+    };
+    Ok(Plan::shift(runner.task, cpu, runner.columns, cpu))
 }
 
 // Kind 9: whether a CPU has ordinary work.
-pub fn set_ordinary(n: usize, who: u32, b: u32) -> Decision
+pub fn set_ordinary(n: usize, who: u32, b: u32) -> Result<Decision, Refusal>
     ensures { (m : Machine) (kind a k : ℕ) → n ≡ m.n → DecidedAs set_ordinary m (event kind who a b k) result }
 {
     let cpu = who as usize;
     if n <= cpu {
-        return Decision::Refused(answer::BAD_NUMBER);
+        return Err(Refusal::BadNumber);
     }
     if WORK < b {
-        return Decision::Refused(answer::BAD_VALUE);
+        return Err(Refusal::BadValue);
     }
-    Decision::Flag { cpu, work: b as u8 }
+    Ok(Decision::Flag { cpu, work: b as u8 })
 }
 
 // Kind 10: the CPU goes offline. `stranding` says that one of its tasks would then have nowhere to go.
-pub fn take_offline(n: usize, online: u64, stranding: bool, who: u32) -> Decision
+pub fn take_offline(n: usize, online: u64, stranding: bool, who: u32) -> Result<Decision, Refusal>
     requires { n ≤ cpu_places }
     ensures { (m : Machine) (kind a b k : ℕ) → n ≡ m.n → online ≡ m.online → stranding ≡ strands m who
         → DecidedAs take_offline m (event kind who a b k) result }
 {
     let cpu = who as usize;
     if n <= cpu {
-        return Decision::Refused(answer::BAD_NUMBER);
+        return Err(Refusal::BadNumber);
     }
     if stranding {
-        return Decision::Refused(answer::NOWHERE);
+        return Err(Refusal::Nowhere);
     }
     if !bits::test_bit(online, cpu) {
-        return Decision::Refused(answer::WRONG_CPU_STATE);
+        return Err(Refusal::WrongCpuState);
     }
     if bits::clear_bit(online, cpu) == 0 {
-        return Decision::Refused(answer::LAST_CPU);
+        return Err(Refusal::LastCpu);
     }
-    Decision::Offline { cpu }
+    Ok(Decision::Offline { cpu })
 }
 
 // Kind 11: the CPU is online again.
-pub fn bring_online(n: usize, online: u64, who: u32) -> Decision
+pub fn bring_online(n: usize, online: u64, who: u32) -> Result<Decision, Refusal>
     requires { n ≤ cpu_places }
     ensures { (m : Machine) (kind a b k : ℕ) → n ≡ m.n → online ≡ m.online
         → DecidedAs bring_online m (event kind who a b k) result }
 {
     let cpu = who as usize;
     if n <= cpu {
-        return Decision::Refused(answer::BAD_NUMBER);
+        return Err(Refusal::BadNumber);
     }
     if bits::test_bit(online, cpu) {
-        return Decision::Refused(answer::WRONG_CPU_STATE);
+        return Err(Refusal::WrongCpuState);
     }
-    Decision::Online { cpu }
+    Ok(Decision::Online { cpu })
 }

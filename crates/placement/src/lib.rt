@@ -4,16 +4,14 @@
 
 ghost use Rattle.std.specs.Prelude.{◌≡◌, ℕ, ◌*◌, ◌≤◌, ◌<◌, length, get_or, set};
 ghost use Rattle.cpupri.specs.Record.{record_of, Whole};
-ghost use Rattle.levels.specs.Record.{lent_record};
 ghost use Rattle.cpupri.specs.Level.{level_of};
 ghost use Rattle.rules.specs.Lists.{In};
 ghost use Rattle.rules.specs.Machine.{Machine, task_places, highest_priority, level, row_level, enqueue};
 ghost use Rattle.runqueue.specs.Table.{HoldsRows, row_at};
 ghost use Rattle.placement.specs.Held.{Held, Entering, Following};
 
-use cpupri::lent::set_level;
 use cpupri::level::Level;
-use cpupri::record::{CPUS, LEVELS, WORDS};
+use cpupri::record::Record;
 
 // The CPU's level follows its row: it is that of the first task or, with an empty row, the ordinary-work flag. One that stays
 // the same is not written.
@@ -22,22 +20,19 @@ pub fn follow(
     counts: &[u16],
     prio: &[u8],
     flags: &[u8],
-    masks: &mut [u64; LEVELS],
-    tallies: &mut [u8; LEVELS],
-    words: &mut [u64; WORDS],
-    levels: &mut [u8; CPUS],
+    record: &mut Record,
     cpu: usize,
 )
     requires following { (m : Machine) × Following m prio.now flags.now counts.now rows.now cpu }
-    requires whole { Whole (lent_record masks.old tallies.old words.old levels.old) }
+    requires whole { Whole «record».old }
     ensures { (m : Machine) → Following m prio.now flags.now counts.now rows.now cpu
-        → lent_record masks.new tallies.new words.new levels.new ≡ record_of (set levels.old cpu (level m cpu)) }
+        → «record».new ≡ record_of (set «record».old.levels cpu (level m cpu)) }
 {
     let level = cpu_level(rows, counts, prio, flags, cpu);
-    if level.number == levels[cpu] {
+    if level.number == record.levels[cpu] {
         return;
     }
-    set_level(masks, tallies, words, levels, cpu, level);
+    record.set_level(cpu, level);
 }
 
 // The task enters the row of a CPU behind its equals, and that is then its CPU.
@@ -46,38 +41,30 @@ pub fn enter(
     counts: &mut [u16],
     prio: &[u8],
     cpus: &mut [u8],
-    masks: &mut [u64; LEVELS],
-    tallies: &mut [u8; LEVELS],
-    words: &mut [u64; WORDS],
-    levels: &mut [u8; CPUS],
+    record: &mut Record,
     cpu: usize,
     task: u16,
 )
-    requires fact { let r = lent_record masks.old tallies.old words.old levels.old in
-        ((m : Machine) × Entering m prio.now counts.old rows.old r task cpu) }
+    requires entering { (m : Machine) × Entering m prio.now counts.old rows.old «record».old task cpu }
     requires cpus_len { length cpus.old ≡ task_places }
-    ensures fact_1 { let r = lent_record masks.old tallies.old words.old levels.old in
-        let s = lent_record masks.new tallies.new words.new levels.new in
-        ((m : Machine) → Entering m prio.now counts.old rows.old r task cpu
-        → Held (enqueue task cpu m) prio.now counts.new rows.new s) }
-    ensures fact_2 { let r = lent_record masks.old tallies.old words.old levels.old in
-        let s = lent_record masks.new tallies.new words.new levels.new in
-        cpus.new ≡ set cpus.old task cpu }
+    ensures held { (m : Machine) → Entering m prio.now counts.old rows.old «record».old task cpu
+        → Held (enqueue task cpu m) prio.now counts.new rows.new «record».new }
+    ensures cpus_set { cpus.new ≡ set cpus.old task cpu }
 {
     runqueue::table::enqueue(rows, counts, prio, cpu, task, false);
     cpus[task as usize] = cpu as u8;
     let level = first_level(rows, prio, cpu);
-    set_level(masks, tallies, words, levels, cpu, level);
+    record.set_level(cpu, level);
 }
 
 // The level of a CPU: that of the task it runs or, with an empty row, its ordinary-work flag.
 pub fn cpu_level(rows: &[u16], counts: &[u16], prio: &[u8], flags: &[u8], cpu: usize) -> Level
     requires holds_rows { HoldsRows counts.now rows.now }
-    requires cpu_in_bounds { cpu < length counts.now }
-    requires cpu_in_bounds_2 { cpu < length flags.now }
+    requires cpu_has_row { cpu < length counts.now }
+    requires cpu_has_flag { cpu < length flags.now }
     requires prio_len { length prio.now ≡ task_places }
-    requires by_index { (u : ℕ) → In u (row_at counts.now rows.now cpu) → (u < task_places) × (get_or prio.now u 0 ≤ highest_priority) }
-    requires cpu_bound { get_or flags.now cpu 0 ≤ 1 }
+    requires tasks { (u : ℕ) → In u (row_at counts.now rows.now cpu) → (u < task_places) × (get_or prio.now u 0 ≤ highest_priority) }
+    requires flag_bound { get_or flags.now cpu 0 ≤ 1 }
     ensures { result.number ≡ row_level (λ u. get_or prio.now u 0) (get_or flags.now cpu 0) (row_at counts.now rows.now cpu) }
 {
     if counts[cpu] == 0 {
@@ -88,10 +75,10 @@ pub fn cpu_level(rows: &[u16], counts: &[u16], prio: &[u8], flags: &[u8], cpu: u
 
 // The level of a CPU that runs a task.
 fn first_level(rows: &[u16], prio: &[u8], cpu: usize) -> Level
-    requires task_places_in_bounds { cpu * task_places < length rows.now }
+    requires cpu_has_row { cpu * task_places < length rows.now }
     requires prio_len { length prio.now ≡ task_places }
-    requires task_places_bound { get_or rows.now (cpu * task_places) 0 < task_places }
-    requires task_places_bound_2 { get_or prio.now (get_or rows.now (cpu * task_places) 0) 0 ≤ highest_priority }
+    requires first_is_task { get_or rows.now (cpu * task_places) 0 < task_places }
+    requires first_priority { get_or prio.now (get_or rows.now (cpu * task_places) 0) 0 ≤ highest_priority }
     ensures { result.number ≡ level_of (get_or prio.now (get_or rows.now (cpu * task_places) 0) 0) }
 {
     let first = rows[cpu * runqueue::row::PLACES] as usize;

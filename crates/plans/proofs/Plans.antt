@@ -3,25 +3,22 @@
 use mathlib.Core.Path.{◌≡◌, refl, sym, ap, ap₂, ◌∙◌, subst}
 use mathlib.Core.Bool.{Bool, true, false, cond}
 use mathlib.Core.Logic.{◌≢◌, inl, inr}
-use mathlib.Core.List.{List, [], ◌∷◌}
-use Prim.Native.Nat.{ℕ, ◌-◌, ◌≤◌, ◌<◌, ◌^◌}
+use Prim.Native.Nat.{ℕ, ◌≤◌, ◌<◌, ◌^◌}
 use native.Mathlib.Omega.{arith}
 use lib.Dec.{eqb, leb, ltb}
 use borrow.Author.Tests.{eq-eqb, ne_eqb, le-leb, lt-leb}
 use Rattle.bits.specs.Bit.{bit, lowest}
 use lib.Bits.{bit_and}
-use Rattle.rules.specs.Lists.{In}
-use Rattle.rules.specs.Machine.{Machine, Task, task_of, row, is_online, enqueue_at, enqueue, dequeue, requeue, allows, lowest_allowed, stranded, free, asleep, runnable, rr, cpu_places, task_places, highest_priority}
-use Rattle.rules.specs.WellFormed.{WellFormed, Fit}
-use Rattle.rules.specs.Events.{wake_cpu, woken, slept, reprioritised, reaffined, ticked_task, ticked, yielded, to_first}
-use Rattle.laws.proofs.Lists.{in_here}
-use Rattle.laws.proofs.Apart.{fit_of, runnable_fit, runnable_place, row_in, in_row}
+use Rattle.rules.specs.Machine.{Machine, Task, task_of, is_online, enqueue_at, enqueue, dequeue, allows, lowest_allowed, stranded, free, asleep, runnable, cpu_places, task_places, highest_priority}
+use Rattle.rules.specs.WellFormed.{Fit}
+use Rattle.rules.specs.Events.{wake_cpu, woken, slept, reprioritised, reaffined}
+use Rattle.laws.proofs.Apart.{fit_of, runnable_fit, row_in}
 use Rattle.laws.proofs.Effects.{wake_good}
 use Rattle.laws.proofs.Online.{lowest_up, lowest_allowed_lem, allows_bit, allows_online, home_online}
-use Rattle.rules.specs.Plan.{Plan, carried, rewrite, enter, leave, shift, reorder, with_state, with_prio, with_slice, with_mask, Doable, Carries}
-use Rattle.plans.specs.Decided.{Named, Runs, first_of}
+use Rattle.rules.specs.Plan.{Plan, carried, rewrite, enter, leave, shift, reorder, with_state, with_prio, with_mask, Doable, Carries}
+use Rattle.plans.specs.Decided.{Named}
 use Rattle.plans.specs.declared.plan.Task.{Task as Columns}
-use Rattle.plans.proofs.Planned.{write_self, write_state, write_prio, write_slice, write_mask}
+use Rattle.plans.proofs.Planned.{write_state, write_prio, write_mask}
 
 pub replaced : {done m : Machine} {p q : Plan} → q ≡ p → Carries done m p → Carries done m q
 replaced {done} {m} e h = subst (Carries done m) (sym e) h
@@ -160,83 +157,6 @@ module _ {m : Machine} {t : ℕ} {τ : Columns} (l : Named m t τ) where
             doable = shifted (with_mask k (task_of m t)) (lowest_allowed m k) (state_is s) good.0 (allows_online m k (lowest_allowed m k) good.1)
                 (runnable_fit m t l.formed (state_is s)).prio_high;
           }
-
--- ---- the first of a row
-
-pub some_first : (t : ℕ) (r : List ℕ) → t ≡ first_of r → t < task_places → (ts : List ℕ) × (r ≡ t ∷ ts)
-some_first t [] e h = absurd (omega arith)
-some_first t (u ∷ us) e h = (us, ap (λ (x : ℕ). x ∷ us) (sym e))
-
-pub no_first : (m : Machine) (c t : ℕ) → WellFormed m → t ≡ first_of (row m c) → task_places ≤ t → row m c ≡ []
-no_first m c t w e z = go (row m c) refl
-  where
-    go : (r : List ℕ) → row m c ≡ r → r ≡ []
-    go [] q = refl
-    go (u ∷ us) q =
-        let small : u < task_places = runnable_place m u w (in_row m u c w (subst (In u) (sym q) (in_here u us))).0 in
-        let is : t ≡ u = e ∙ ap first_of q in
-        absurd (omega arith)
-
--- ---- the task that runs
-
-module _ {m : Machine} {c t : ℕ} {τ : Columns} (l : Runs m c t τ) where
-  pub empty : task_places ≤ t → row m c ≡ []
-  empty z = no_first m c t l.formed l.first z
-
-  pub ticked_empty : task_places ≤ t → ticked c m ≡ m
-  ticked_empty z = ap (to_first (λ (t : ℕ). ticked_task t c m) m) (empty z)
-
-  module _ (some : t < task_places) where
-    pub runs : (ts : List ℕ) × (row m c ≡ t ∷ ts)
-    runs = some_first t (row m c) l.first some
-
-    stands : ((task_of m t).state ≡ runnable) × ((task_of m t).cpu ≡ c)
-    stands = in_row m t c l.formed (subst (In t) (sym runs.1) (in_here t runs.0))
-
-    named : Named m t τ
-    named = record { formed = l.formed; columns = l.columns }
-
-    behind : (σ : Task) → σ.prio ≡ (task_of m t).prio → Doable m (shift t c σ c)
-    behind σ e =
-        subst (λ (d : ℕ). Doable m (shift t d σ d)) stands.1
-        (shifted named some σ (task_of m t).cpu stands.0 (runnable_fit m t l.formed stands.0).cpu (home_online m t l.formed stands.0)
-        (subst (λ (x : ℕ). x ≤ highest_priority) (sym e) (runnable_fit m t l.formed stands.0).prio_high))
-
-    ticked_is : ticked c m ≡ ticked_task t c m
-    ticked_is = ap (to_first (λ (t : ℕ). ticked_task t c m) m) runs.1
-
-    pub ticked_fifo : τ.policy ≢ rr → ticked c m ≡ m
-    ticked_fifo n =
-        ticked_is ∙ rw (ne_eqb (task_of m t).policy rr (λ e. n (ap (λ (x : Task). x.policy) l.columns ∙ e)))
-
-    module _ (r : τ.policy ≡ rr) where
-      is_rr : eqb (task_of m t).policy rr ≡ true
-      is_rr = eq-eqb (task_of m t).policy rr (ap (λ (x : Task). x.policy) (sym l.columns) ∙ r)
-
-      slice_is : τ.slice ≡ (task_of m t).slice
-      slice_is = ap (λ (x : Task). x.slice) l.columns
-
-      pub ticks_less : 1 < τ.slice → Carries (ticked c m) m (rewrite t (with_slice ((task_of m t).slice - 1) (task_of m t)))
-      ticks_less h =
-          record {
-            effect = ticked_is ∙ rw (is_rr, ne_eqb ((task_of m t).slice - 1) 0 (λ e. omega (arith, slice_is))) (sym (write_slice t ((task_of m t).slice - 1) m));
-            doable = kept named some (with_slice ((task_of m t).slice - 1) (task_of m t)) refl;
-          }
-
-      pub ticks_again : τ.slice ≤ 1 → Carries (ticked c m) m (shift t c (with_slice m.full (task_of m t)) c)
-      ticks_again h =
-          let z : (task_of m t).slice - 1 ≡ 0 = omega (arith, slice_is) in
-          record {
-            effect = ticked_is ∙ rw (is_rr, eq-eqb ((task_of m t).slice - 1) 0 z) (ap (enqueue t c) (sym (write_slice t m.full (dequeue t c m))));
-            doable = behind (with_slice m.full (task_of m t)) refl;
-          }
-
-    pub yields : Carries (yielded c m) m (shift t c (task_of m t) c)
-    yields =
-        record {
-          effect = ap (to_first (λ (t : ℕ). requeue t c m) m) runs.1 ∙ ap (enqueue t c) (sym (write_self t (dequeue t c m)));
-          doable = behind (task_of m t) refl;
-        }
 
 -- ---- CPU numbers, with N as it is lent
 

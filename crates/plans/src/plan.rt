@@ -1,4 +1,4 @@
-// What an event does, decided before anything is written.
+// What an accepted event does, decided before anything is written.
 ghost use Rattle.std.specs.Prelude.{◌≡◌};
 ghost use Rattle.rules.specs.Plan.{rewrite as rewriting, enter as entering, leave as leaving, shift as shifting, reorder as reordering};
 ghost use Rattle.plans.specs.Decided.{as_task, as_plan};
@@ -15,25 +15,26 @@ pub struct Task {
     pub mask: u64,
 }
 
-// A task leaves a row or not, its columns are written, and it enters a row or not, in front of its
-// equals or behind them. Entering sets its CPU besides. (Numbers first: where a decision about a CPU lies in the same places, a
-// plan is not packed into words and unpacked again.)
+// A task leaves the row of a CPU or not, its columns are written, and it enters the row of a CPU or not. Entering sets its CPU besides.
 #[derive(Clone, Copy)]
 pub struct Plan {
-    pub origin: usize,
-    pub becomes: Task,
-    pub target: usize,
     pub task: u16,
-    pub leaves: bool,
-    pub enters: bool,
+    pub becomes: Task,
+    // the CPU whose row it leaves
+    pub leaves: Option<usize>,
+    pub enters: Option<Entry>,
+}
+
+// The CPU whose row a task enters, and whether it goes in front of its equals there.
+#[derive(Clone, Copy)]
+pub struct Entry {
+    pub target: usize,
     pub front: bool,
 }
 
 #[derive(Clone, Copy)]
 pub enum Decision {
-    // the refusal's number
-    Refused(u8),
-    // accepted, and no effect of its own
+    // no effect of its own
     Nothing,
     Place(Plan),
     // the CPU has ordinary work (1) or none (0)
@@ -50,12 +51,9 @@ impl Plan {
     {
         Plan {
             task,
-            leaves: false,
-            enters: false,
-            origin: 0,
             becomes,
-            front: false,
-            target: 0,
+            leaves: None,
+            enters: None,
         }
     }
 
@@ -65,12 +63,12 @@ impl Plan {
     {
         Plan {
             task,
-            leaves: false,
-            enters: true,
-            origin: 0,
             becomes,
-            front: false,
-            target,
+            leaves: None,
+            enters: Some(Entry {
+                target,
+                front: false,
+            }),
         }
     }
 
@@ -80,12 +78,9 @@ impl Plan {
     {
         Plan {
             task,
-            leaves: true,
-            enters: false,
-            origin,
             becomes,
-            front: false,
-            target: 0,
+            leaves: Some(origin),
+            enters: None,
         }
     }
 
@@ -95,12 +90,12 @@ impl Plan {
     {
         Plan {
             task,
-            leaves: true,
-            enters: true,
-            origin,
             becomes,
-            front: false,
-            target,
+            leaves: Some(origin),
+            enters: Some(Entry {
+                target,
+                front: false,
+            }),
         }
     }
     // To another place in its row, in front of its equals or behind them.
@@ -109,12 +104,12 @@ impl Plan {
     {
         Plan {
             task,
-            leaves: true,
-            enters: true,
-            origin: home,
             becomes,
-            front,
-            target: home,
+            leaves: Some(home),
+            enters: Some(Entry {
+                target: home,
+                front,
+            }),
         }
     }
 }

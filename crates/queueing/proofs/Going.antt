@@ -12,7 +12,7 @@ use lib.Seq.{get_or-set_same, set-get_or, set-set}
 use Rattle.cpupri.specs.Record.{record_of}
 use Rattle.levels.specs.declared.record.Record.{Record}
 use Rattle.rules.specs.Lists.{delete}
-use Rattle.rules.specs.Machine.{Machine, Task, task_of, row, running, level, levels, write, queued, entry_key, dequeue, runnable, task_places, cpu_places, highest_priority}
+use Rattle.rules.specs.Machine.{Machine, Task, task_of, row, running, level, levels, write, queued, entry_key, dequeue, runnable, task_places, highest_priority}
 use Rattle.rules.specs.Plan.{Plan, reorder, left, carried}
 use Rattle.rules.specs.Tables.{flat_of, row_counts}
 use Rattle.rules.specs.WellFormed.{WellFormed}
@@ -26,11 +26,13 @@ use Rattle.placement.proofs.Joining.{has_left, can_reorder, has_reordered}
 use Rattle.parts.proofs.Optional.{may_enter}
 use Rattle.carrying.specs.Holds.{Holds, Placeable}
 use Rattle.carrying.proofs.Placing.{leaves, enters, placed, cpus_kept, column}
-use Rattle.hinting.specs.Hinted.{candidates}
+use Rattle.std.specs.Prelude.{Option}
+use Rattle.std.specs.Bool.{then_some}
+use Rattle.hinting.specs.Hinted.{coded}
 use Rattle.hinting.specs.Past.{Reading, Standing, past_of, new_since, candidates_since}
 use Rattle.hinting.specs.declared.past.Past.TheVariants.{Task as stood}
 use Rattle.hinting.proofs.Events.{cpu_small}
-use Rattle.hinting.proofs.Lent.{level_is, cpu_is, past_is, since_is, unlevelled}
+use Rattle.hinting.proofs.Lent.{seen, level_is, cpu_is, past_is, since_is, unlevelled}
 use Rattle.hinting.specs.declared.hint.Candidates.{Candidates}
 use Rattle.queueing.specs.Moved.{Moving, Moved}
 
@@ -132,13 +134,13 @@ module _ {m : Machine} {p : Plan} {ss qs cs flat ns fs : List ℕ} {r : Record} 
         ap (λ (x : ℕ). stood p.task x (get_or r.levels x 0) (eqb (get_or flat (x * task_places) 0) p.task)) (sym (cpu_is reading p.task ∙ home))
         ∙ past_is reading p.task k.ready.task
 
-    -- b: it ran there; d: the level fell
-    pub few_since : {cs' flat' ls' : List ℕ} → Reading (carried p m) cs' flat' ls' → (b d : Bool) → eqb (get_or flat (c * task_places) 0) p.task ≡ b
-        → ltb (get_or ls' c 0) (get_or r.levels c 0) ≡ d → {new : ℕ} → new ≡ new_since p.task c b (carried p m)
-        → candidates (cond (b && d) c cpu_places) new ≡ candidates_since (past_of m p.task) (carried p m)
-    few_since {cs'} {flat'} {ls'} a b d eb ed {new} en =
+    -- b: it ran there
+    pub few_since : {cs' flat' ls' : List ℕ} → Reading (carried p m) cs' flat' ls' → (b : Bool) → eqb (get_or flat (c * task_places) 0) p.task ≡ b
+        → {fallen new : Option ℕ} → fallen ≡ then_some (b && ltb (get_or ls' c 0) (get_or r.levels c 0)) c → new ≡ coded (new_since p.task c b (carried p m))
+        → seen fallen new ≡ candidates_since (past_of m p.task) (carried p m)
+    few_since a b eb ef en =
         since_is a p.task c (get_or r.levels c 0) b (past_of m p.task) (sym past_there ∙ ap (stood p.task c (get_or r.levels c 0)) eb)
-        (subst (λ (n : ℕ). c < n) (sym (cpus_kept own)) h) new en (b && d) (ap (λ (x : Bool). b && x) ed)
+        (subst (λ (n : ℕ). c < n) (sym (cpus_kept own)) h) ef en
 
 -- ---- another place in the row that it stands in
 
@@ -151,7 +153,7 @@ module _ {m : Machine} {front : Bool} {t c : ℕ} {τ : Task} {ss qs cs flat ns 
   left_out = has_left m t (leaves (own k)).queues k.ready.leaves.0 k.ready.leaves.1 refl refl
 
   entering : Entering (write t τ (dequeue t c m)) qs (row_counts without) (flat_of without) (record_of (levels (write t τ (dequeue t c m)))) t c
-  entering = may_enter (enters (own k) left_out k.prio) refl
+  entering = may_enter (enters (own k) left_out k.prio)
 
   -- what `runqueue::table::reorder` asks
   pub reorderable : HoldsRows ns flat × ((c < length ns) × ((length qs ≡ task_places) × ((get_or qs t 0 ≤ highest_priority) × Reorderable qs t (row_at ns flat c))))

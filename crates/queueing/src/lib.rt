@@ -3,16 +3,15 @@
 #![tactic(auto)]
 
 ghost use Rattle.std.specs.Prelude.{◌≡◌, false, ◌≢◌};
-ghost use Rattle.levels.specs.Record.{lent_record};
 ghost use Rattle.rules.specs.Machine.{Machine, Task, runnable};
 ghost use Rattle.rules.specs.Plan.{enter as entering, leave as leaving, shift as shifting, reorder as reordering, rewrite as rewriting};
 ghost use Rattle.queueing.specs.Moved.{Moving, Running, Moved};
 
-use cpupri::record::{CPUS, LEVELS, WORDS};
+use cpupri::record::Record;
 use hinting::hint::Candidates;
 use hinting::past::{since, standing};
-use parts::{enter_if, follow_if, leave_if};
-use runqueue::row::{NOTHING, PLACES};
+use placement::follow;
+use runqueue::row::{PLACES, task_in};
 use runqueue::table;
 
 // Into the row of `target`, behind its equals. It stood in none, so no CPU falls; who waits newly is the task, or whom it displaced.
@@ -23,35 +22,27 @@ pub fn enter(
     rows: &mut [u16],
     counts: &mut [u16],
     flags: &[u8],
-    masks: &mut [u64; LEVELS],
-    tallies: &mut [u8; LEVELS],
-    words: &mut [u64; WORDS],
-    levels: &mut [u8; CPUS],
+    record: &mut Record,
     task: u16,
     target: usize,
 ) -> Candidates
-    requires { let r = lent_record masks.old tallies.old words.old levels.old in
-        ((m : Machine) × ((τ : Task) × (Moving m (entering task τ target) state.now prio.now cpu.old rows.old counts.old flags.now r
-        × (τ.state ≡ runnable)))) }
-    ensures { let r = lent_record masks.old tallies.old words.old levels.old in
-        let q = lent_record masks.new tallies.new words.new levels.new in
-        ((m : Machine) (τ : Task) → let p = entering task τ target in
-        Moving m p state.now prio.now cpu.old rows.old counts.old flags.now r → τ.state ≡ runnable
-        → Moved result m p cpu.new rows.new counts.new q) }
+    requires { (m : Machine) × ((τ : Task) × (Moving m (entering task τ target) state.now prio.now cpu.old
+        rows.old counts.old flags.now «record».old × (τ.state ≡ runnable))) }
+    ensures { (m : Machine) (τ : Task) → let p = entering task τ target in
+        Moving m p state.now prio.now cpu.old rows.old counts.old flags.now «record».old → τ.state ≡ runnable
+        → Moved result m p cpu.new rows.new counts.new «record».new }
 {
-    enter_if(true, rows, counts, prio, cpu, target, task, false);
+    parts::enter(rows, counts, prio, cpu, target, task, false);
     if rows[target * PLACES] != task {
         return Candidates {
-            fallen: CPUS,
-            new: task, // it waits, and the level stays
+            fallen: None,
+            new: Some(task), // it waits, and the level stays
         };
     }
-    follow_if(
-        true, rows, counts, prio, flags, masks, tallies, words, levels, target,
-    );
+    follow(rows, counts, prio, flags, record, target);
     Candidates {
-        fallen: CPUS,
-        new: rows[target * PLACES + 1],
+        fallen: None,
+        new: task_in(rows[target * PLACES + 1]),
     }
 }
 
@@ -63,43 +54,27 @@ pub fn leave(
     rows: &mut [u16],
     counts: &mut [u16],
     flags: &[u8],
-    masks: &mut [u64; LEVELS],
-    tallies: &mut [u8; LEVELS],
-    words: &mut [u64; WORDS],
-    levels: &mut [u8; CPUS],
+    record: &mut Record,
     task: u16,
     origin: usize,
 ) -> Candidates
-    requires { let r = lent_record masks.old tallies.old words.old levels.old in
-        ((m : Machine) × ((τ : Task) × (Moving m (leaving task origin τ) state.now prio.now cpu.now rows.old counts.old flags.now r
-        × (τ.state ≢ runnable)))) }
-    ensures { let r = lent_record masks.old tallies.old words.old levels.old in
-        let q = lent_record masks.new tallies.new words.new levels.new in
-        ((m : Machine) (τ : Task) → let p = leaving task origin τ in
-        Moving m p state.now prio.now cpu.now rows.old counts.old flags.now r → τ.state ≢ runnable
-        → Moved result m p cpu.now rows.new counts.new q) }
+    requires { (m : Machine) × ((τ : Task) × (Moving m (leaving task origin τ) state.now prio.now cpu.now
+        rows.old counts.old flags.now «record».old × (τ.state ≢ runnable))) }
+    ensures { (m : Machine) (τ : Task) → let p = leaving task origin τ in
+        Moving m p state.now prio.now cpu.now rows.old counts.old flags.now «record».old → τ.state ≢ runnable
+        → Moved result m p cpu.now rows.new counts.new «record».new }
 {
     let ran = rows[origin * PLACES] == task;
-    leave_if(true, rows, counts, origin, task);
+    parts::leave(rows, counts, origin, task);
     if !ran {
-        return Candidates {
-            fallen: CPUS, // the level stays
-            new: NOTHING,
-        };
+        return Candidates::NOBODY; // the level stays
     }
-    let level = levels[origin];
-    follow_if(
-        true, rows, counts, prio, flags, masks, tallies, words, levels, origin,
-    );
-    if levels[origin] < level {
-        return Candidates {
-            fallen: origin,
-            new: NOTHING,
-        };
-    }
+    let level = record.levels[origin];
+    follow(rows, counts, prio, flags, record, origin);
+    let fell = record.levels[origin] < level;
     Candidates {
-        fallen: CPUS,
-        new: NOTHING,
+        fallen: fell.then_some(origin),
+        new: None,
     }
 }
 
@@ -111,31 +86,23 @@ pub fn requeue(
     rows: &mut [u16],
     counts: &[u16],
     flags: &[u8],
-    masks: &[u64; LEVELS],
-    tallies: &[u8; LEVELS],
-    words: &[u64; WORDS],
-    levels: &[u8; CPUS],
+    record: &Record,
     task: u16,
     home: usize,
 ) -> Candidates
-    requires { let r = lent_record masks.now tallies.now words.now levels.now in
-        ((m : Machine) × ((τ : Task) × (Moving m (reordering false task home τ) state.now prio.now cpu.now rows.old counts.now flags.now r
-        × Running m task home τ))) }
-    ensures { let r = lent_record masks.now tallies.now words.now levels.now in
-        ((m : Machine) (τ : Task) → let p = reordering false task home τ in
-        Moving m p state.now prio.now cpu.now rows.old counts.now flags.now r → Running m task home τ
-        → Moved result m p cpu.now rows.new counts.now r) }
+    requires { (m : Machine) × ((τ : Task) × (Moving m (reordering false task home τ) state.now prio.now cpu.now
+        rows.old counts.now flags.now «record».now × Running m task home τ)) }
+    ensures { (m : Machine) (τ : Task) → let p = reordering false task home τ in
+        Moving m p state.now prio.now cpu.now rows.old counts.now flags.now «record».now → Running m task home τ
+        → Moved result m p cpu.now rows.new counts.now «record».now }
 {
     table::reorder(rows, counts, prio, home, task, false);
     if rows[home * PLACES] == task {
-        return Candidates {
-            fallen: CPUS,
-            new: NOTHING, // it runs still
-        };
+        return Candidates::NOBODY; // it runs still
     }
     Candidates {
-        fallen: CPUS,
-        new: task, // it waits
+        fallen: None,
+        new: Some(task), // it waits
     }
 }
 
@@ -147,29 +114,21 @@ pub fn reorder(
     rows: &mut [u16],
     counts: &[u16],
     flags: &[u8],
-    masks: &mut [u64; LEVELS],
-    tallies: &mut [u8; LEVELS],
-    words: &mut [u64; WORDS],
-    levels: &mut [u8; CPUS],
+    record: &mut Record,
     task: u16,
     home: usize,
     front: bool,
 ) -> Candidates
-    requires { let r = lent_record masks.old tallies.old words.old levels.old in
-        ((m : Machine) × ((τ : Task) × Moving m (reordering front task home τ) state.now prio.now cpu.now
-        rows.old counts.now flags.now r)) }
-    ensures { let r = lent_record masks.old tallies.old words.old levels.old in
-        let q = lent_record masks.new tallies.new words.new levels.new in
-        ((m : Machine) (τ : Task) → let p = reordering front task home τ in
-        Moving m p state.now prio.now cpu.now rows.old counts.now flags.now r
-        → Moved result m p cpu.now rows.new counts.now q) }
+    requires { (m : Machine) × ((τ : Task) × Moving m (reordering front task home τ) state.now prio.now cpu.now
+        rows.old counts.now flags.now «record».old) }
+    ensures { (m : Machine) (τ : Task) → let p = reordering front task home τ in
+        Moving m p state.now prio.now cpu.now rows.old counts.now flags.now «record».old
+        → Moved result m p cpu.now rows.new counts.now «record».new }
 {
-    let past = standing(task, cpu, rows, levels);
+    let past = standing(task, cpu, rows, &record.levels);
     table::reorder(rows, counts, prio, home, task, front);
-    follow_if(
-        true, rows, counts, prio, flags, masks, tallies, words, levels, home,
-    );
-    since(past, state, cpu, rows, levels)
+    follow(rows, counts, prio, flags, record, home);
+    since(past, state, cpu, rows, &record.levels)
 }
 
 // From the row of `origin` to that of `target`, behind its equals.
@@ -180,33 +139,23 @@ pub fn shift(
     rows: &mut [u16],
     counts: &mut [u16],
     flags: &[u8],
-    masks: &mut [u64; LEVELS],
-    tallies: &mut [u8; LEVELS],
-    words: &mut [u64; WORDS],
-    levels: &mut [u8; CPUS],
+    record: &mut Record,
     task: u16,
     origin: usize,
     target: usize,
 ) -> Candidates
-    requires { let r = lent_record masks.old tallies.old words.old levels.old in
-        ((m : Machine) × ((τ : Task) × Moving m (shifting task origin τ target) state.now prio.now cpu.old
-        rows.old counts.old flags.now r)) }
-    ensures { let r = lent_record masks.old tallies.old words.old levels.old in
-        let q = lent_record masks.new tallies.new words.new levels.new in
-        ((m : Machine) (τ : Task) → let p = shifting task origin τ target in
-        Moving m p state.now prio.now cpu.old rows.old counts.old flags.now r
-        → Moved result m p cpu.new rows.new counts.new q) }
+    requires { (m : Machine) × ((τ : Task) × Moving m (shifting task origin τ target) state.now prio.now cpu.old
+        rows.old counts.old flags.now «record».old) }
+    ensures { (m : Machine) (τ : Task) → let p = shifting task origin τ target in
+        Moving m p state.now prio.now cpu.old rows.old counts.old flags.now «record».old
+        → Moved result m p cpu.new rows.new counts.new «record».new }
 {
-    let past = standing(task, cpu, rows, levels);
-    leave_if(true, rows, counts, origin, task);
-    enter_if(true, rows, counts, prio, cpu, target, task, false);
-    follow_if(
-        true, rows, counts, prio, flags, masks, tallies, words, levels, origin,
-    );
-    follow_if(
-        true, rows, counts, prio, flags, masks, tallies, words, levels, target,
-    );
-    since(past, state, cpu, rows, levels)
+    let past = standing(task, cpu, rows, &record.levels);
+    parts::leave(rows, counts, origin, task);
+    parts::enter(rows, counts, prio, cpu, target, task, false);
+    follow(rows, counts, prio, flags, record, origin);
+    follow(rows, counts, prio, flags, record, target);
+    since(past, state, cpu, rows, &record.levels)
 }
 
 // Nowhere: it stays where it is.
@@ -217,19 +166,14 @@ pub fn stay(
     rows: &[u16],
     counts: &[u16],
     flags: &[u8],
-    masks: &[u64; LEVELS],
-    tallies: &[u8; LEVELS],
-    words: &[u64; WORDS],
-    levels: &[u8; CPUS],
+    record: &Record,
     task: u16,
 ) -> Candidates
-    requires { let r = lent_record masks.now tallies.now words.now levels.now in
-        ((m : Machine) × ((τ : Task) × Moving m (rewriting task τ) state.now prio.now cpu.now rows.now counts.now flags.now r)) }
-    ensures { let r = lent_record masks.now tallies.now words.now levels.now in
-        ((m : Machine) (τ : Task) → let p = rewriting task τ in
-        Moving m p state.now prio.now cpu.now rows.now counts.now flags.now r
-        → Moved result m p cpu.now rows.now counts.now r) }
+    requires { (m : Machine) × ((τ : Task) × Moving m (rewriting task τ) state.now prio.now cpu.now rows.now counts.now flags.now «record».now) }
+    ensures { (m : Machine) (τ : Task) → let p = rewriting task τ in
+        Moving m p state.now prio.now cpu.now rows.now counts.now flags.now «record».now
+        → Moved result m p cpu.now rows.now counts.now «record».now }
 {
-    let past = standing(task, cpu, rows, levels);
-    since(past, state, cpu, rows, levels)
+    let past = standing(task, cpu, rows, &record.levels);
+    since(past, state, cpu, rows, &record.levels)
 }

@@ -1,20 +1,20 @@
 -- A row place by place: where a task stands, and what stands where after one leaves or enters.
 -- Assumes nothing.
 use mathlib.Core.Path.{◌≡◌, refl, sym, ap, ◌∙◌}
-use mathlib.Core.Bool.{Bool, true, false, cond, ◌||◌}
+use mathlib.Core.Bool.{Bool, true, false, cond}
 use mathlib.Core.Logic.{◌≢◌, ◌⊎◌, inl, inr}
 use mathlib.Core.List.{List, [], ◌∷◌, ◌++◌}
 use Prim.Native.Nat.{ℕ, zero, suc, ◌+◌, ◌-◌, ◌≤◌, ◌<◌, zero-le, suc-le-suc}
 use native.Mathlib.Nat.{not-suc-le-zero, le_of_suc-le-suc, zero-lt-suc}
 use native.Mathlib.Omega.{arith}
 use lib.Dec.{eqb, leb}
-use lib.ListN.{length, get_or, take, drop, replicate, length-drop, get_or-replicate, get_or-append}
-use lib.Seq.{get_or-append-add, get_or-take, get_or-drop, length-take-le}
+use lib.ListN.{length, get_or, replicate, get_or-replicate, get_or-append}
+use lib.Seq.{get_or-append-add}
 use borrow.Author.Tests.{eqb-false, leb-true, leb-false}
-use Rattle.rules.specs.Lists.{In, any, place, insert_before, delete}
+use Rattle.rules.specs.Lists.{In, place, insert_before, delete}
 use Rattle.rules.specs.Machine.{task_places}
 use Rattle.rules.specs.Tables.{nothing, padded}
-use Rattle.laws.proofs.Lists.{in_cons, in_get_or, any_none}
+use Rattle.laws.proofs.Lists.{in_cons}
 use Rattle.ranking.specs.Row.{ahead}
 
 -- ---- where a task stands
@@ -30,40 +30,6 @@ place_before x (y ∷ ys) k h e = go (eqb x y) refl k h e (place_before x ys)
     go true t k l e rest = not-suc-le-zero l
     go false t zero l e rest = eqb-false x y t (sym e)
     go false t (suc k) l e rest = rest k (le_of_suc-le-suc l) e
-
--- whether one of the first places passes a test, with one place more
-pub any_more : (p : ℕ → Bool) (xs : List ℕ) (i : ℕ) → i < length xs → any p (take (suc i) xs) ≡ (any p (take i xs) || p (get_or xs i 0))
-unfolding any
-any_more p [] i h = absurd (not-suc-le-zero h)
-any_more p (x ∷ xs) zero h = or_false (p x)
-  where
-    or_false : (b : Bool) → (b || false) ≡ b
-    or_false true = refl
-    or_false false = refl
-any_more p (x ∷ xs) (suc i) h = go (p x) (any_more p xs i (le_of_suc-le-suc h))
-  where
-    go : (b : Bool) → any p (take (suc i) xs) ≡ (any p (take i xs) || p (get_or xs i 0)) → (b || any p (take (suc i) xs)) ≡ ((b || any p (take i xs)) || p (get_or xs i 0))
-    go true e = refl
-    go false e = e
-
--- the same of the places from `from` on
-pub any_next : (p : ℕ → Bool) (xs : List ℕ) (from i : ℕ) → from + i < length xs
-    → (any p (take i (drop from xs)) || p (get_or xs (from + i) 0)) ≡ any p (take (i + 1) (drop from xs))
-any_next p xs from i h =
-    let next : suc i ≡ i + 1 = omega arith in
-    ap (λ (x : ℕ). any p (take i (drop from xs)) || p x) (sym (get_or-drop from xs i 0))
-    ∙ sym (any_more p (drop from xs) i (omega (arith, length-drop from xs)))
-    ∙ ap (λ (k : ℕ). any p (take k (drop from xs))) next
-
--- none of them passes it
-pub none_within : (p : ℕ → Bool) (xs : List ℕ) (from size : ℕ) → from + size ≤ length xs → any p (take size (drop from xs)) ≡ false
-    → (k : ℕ) → from ≤ k → k < from + size → p (get_or xs k 0) ≡ false
-none_within p xs from size l none k low high =
-    let same : from + (k - from) ≡ k = omega arith in
-    let reach : length (take size (drop from xs)) ≡ size = length-take-le size (drop from xs) (omega (arith, length-drop from xs)) in
-    let here : get_or (take size (drop from xs)) (k - from) 0 ≡ get_or xs k 0 =
-    get_or-take size (drop from xs) (k - from) 0 (omega arith) ∙ get_or-drop from xs (k - from) 0 ∙ ap (λ (j : ℕ). get_or xs j 0) same in
-    ap p (sym here) ∙ any_none p (take size (drop from xs)) none _ (in_get_or (take size (drop from xs)) (k - from) (omega arith))
 
 -- ---- after it leaves
 

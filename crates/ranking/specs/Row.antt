@@ -18,17 +18,16 @@ block = 16
 abbrev pub prio_at : List ℕ → List ℕ → ℕ → ℕ
 prio_at prio row k = get_or prio (get_or row k 0) 0
 
--- the first `count` places hold task numbers, and their priorities fall
-pub record Ordered (prio row : List ℕ) (count : ℕ) : Type 0 where
-  pub most : count ≤ length row
+-- the places hold task numbers, and their priorities fall
+pub record Ordered (prio row : List ℕ) : Type 0 where
   pub prios : length prio ≡ task_places
-  pub tasks : (k : ℕ) → k < count → get_or row k 0 < task_places
-  pub falls : (j k : ℕ) → j ≤ k → k < count → prio_at prio row k ≤ prio_at prio row j
+  pub tasks : (k : ℕ) → k < length row → get_or row k 0 < task_places
+  pub falls : (j k : ℕ) → j ≤ k → k < length row → prio_at prio row k ≤ prio_at prio row j
 
 -- the tasks from `at` on are below the key
-pub record LowerFrom (prio row : List ℕ) (count key at : ℕ) : Type 0 where
-  pub most : at ≤ count
-  pub lower : (k : ℕ) → at ≤ k → k < count → prio_at prio row k < key
+pub record LowerFrom (prio row : List ℕ) (key at : ℕ) : Type 0 where
+  pub most : at ≤ length row
+  pub lower : (k : ℕ) → at ≤ k → k < length row → prio_at prio row k < key
 
 -- whether the tasks that are not below the key end at `at`
 pub record Ends (prio row : List ℕ) (key at : ℕ) (ends : Bool) : Type 0 where

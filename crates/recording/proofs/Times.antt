@@ -3,6 +3,7 @@
 use mathlib.Core.Path.{◌≡◌, refl, ap, ◌∙◌}
 use mathlib.Core.Bool.{Bool, true, false, cond}
 use mathlib.Core.List.{List, [], ◌∷◌}
+use Rattle.std.specs.Prelude.{Ok, Err}
 use Prim.Native.Nat.{ℕ, zero, suc, ◌+◌, ◌≤◌, ◌<◌, ◌^◌}
 use native.Mathlib.Omega.{arith}
 use lib.Dec.{eqb}
@@ -14,9 +15,7 @@ use Rattle.rules.specs.Tables.{Tables}
 use Rattle.rules.specs.Entry.{made}
 use Rattle.recording.specs.declared.Event.{Event}
 use Rattle.recording.specs.declared.Ending.TheVariants.{Stopped}
-use Rattle.recording.specs.declared.First.{First}
-use Rattle.recording.specs.declared.First.TheVariants.{Missing, Bad, Opens}
-use Rattle.recording.specs.Reading.{first_of, reading}
+use Rattle.recording.specs.Reading.{First, first_of, reading}
 use Rattle.recording.specs.Replay.{Run, elapsed, accrued, next, runs, begun, first_stamp, part_of, lent_for64, unplayed, played, replayed}
 
 pub length_accrued : (d : ℕ) (ks ts : List ℕ) → length (accrued d ks ts) ≡ length ts
@@ -66,8 +65,7 @@ replayed_places bs r s = go (lent_for64 s) (first_of bs)
 
     go : (b : Bool) (f : First) → length (cond b (played bs r s f) (unplayed bad_size Stopped r s)).times ≡ cpu_places
     go false f = zeros
-    go true Missing = zeros
-    go true Bad = zeros
-    go true (Opens n full p) =
-        let es : List Event = (reading p bs).events in
-        runs_places n es (begun (made n r (part_of n full s)) (first_stamp es)) ∙ zeros
+    go true (Err x) = zeros
+    go true (Ok o) =
+        let es : List Event = (reading o.end bs).events in
+        runs_places o.n es (begun (made o.n r (part_of o.n o.full s)) (first_stamp es)) ∙ zeros

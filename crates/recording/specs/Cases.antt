@@ -1,6 +1,6 @@
 -- Recordings worked out by hand, for each sentence of the paper: first records, what is read, and nights through the public entry.
 -- Assumes nothing.
-use Rattle.std.specs.Prelude.{Bool, true, false, ◌&&◌, List, [], ◌∷◌, ◌++◌, ℕ, ◌+◌, ◌*◌, ◌^◌, take, drop, replicate}
+use Rattle.std.specs.Prelude.{Bool, true, false, ◌&&◌, Err, List, [], ◌∷◌, ◌++◌, ℕ, ◌+◌, ◌*◌, ◌^◌, take, drop, replicate}
 use Rattle.cpupri.specs.Consistent.{same}
 use Rattle.levels.specs.declared.record.Record.{Record}
 use Rattle.rules.specs.Machine.{task_places, cpu_places}
@@ -8,10 +8,8 @@ use Rattle.rules.specs.Tables.{Tables, nothing, log_places, lent}
 use Rattle.recording.specs.declared.Event.{Event}
 use Rattle.recording.specs.declared.Ending.{Ending}
 use Rattle.recording.specs.declared.Ending.TheVariants.{Whole, Cut, Stopped}
-use Rattle.recording.specs.declared.First.{First}
-use Rattle.recording.specs.declared.First.TheVariants.{Missing, Bad, Opens}
 use Rattle.recording.specs.Layout.{recorded}
-use Rattle.recording.specs.Reading.{Reading}
+use Rattle.recording.specs.Reading.{First, opens, Reading}
 use Rattle.recording.specs.Replay.{Replayed, elapsed, replayed}
 
 -- ---- the first record
@@ -23,19 +21,25 @@ pub record FirstCase : Type 0 where
 abbrev first : List ℕ → First → FirstCase
 first bs f = record { bytes = bs; expected = f }
 
+abbrev cut : List ℕ → FirstCase
+cut bs = first bs (Err Cut)
+
+abbrev stopped : List ℕ → FirstCase
+stopped bs = first bs (Err Stopped)
+
 abbrev pub firsts : List FirstCase
 firsts =
     -- "empty is cut", and so is a first record whose N is missing, or whose N is good and slice cut
-    first [] Missing ∷ first (0 ∷ []) Missing ∷ first (12 ∷ []) Missing ∷ first (12 ∷ 4 ∷ []) Missing ∷ first (12 ∷ 4 ∷ 25 ∷ []) Missing
+    cut [] ∷ cut (0 ∷ []) ∷ cut (12 ∷ []) ∷ cut (12 ∷ 4 ∷ []) ∷ cut (12 ∷ 4 ∷ 25 ∷ [])
     -- "a first kind not 0", or 12
-    ∷ first (3 ∷ []) Bad ∷ first (1 ∷ 4 ∷ []) Bad ∷ first (13 ∷ 4 ∷ 25 ∷ 0 ∷ []) Bad
+    ∷ stopped (3 ∷ []) ∷ stopped (1 ∷ 4 ∷ []) ∷ stopped (13 ∷ 4 ∷ 25 ∷ 0 ∷ [])
     -- "an N out of range", "its slice cut or not"
-    ∷ first (0 ∷ 0 ∷ []) Bad ∷ first (0 ∷ 65 ∷ []) Bad ∷ first (12 ∷ 65 ∷ []) Bad ∷ first (12 ∷ 0 ∷ 25 ∷ []) Bad ∷ first (12 ∷ 65 ∷ 25 ∷ 0 ∷ []) Bad
+    ∷ stopped (0 ∷ 0 ∷ []) ∷ stopped (0 ∷ 65 ∷ []) ∷ stopped (12 ∷ 65 ∷ []) ∷ stopped (12 ∷ 0 ∷ 25 ∷ []) ∷ stopped (12 ∷ 65 ∷ 25 ∷ 0 ∷ [])
     -- "a slice out of range"
-    ∷ first (12 ∷ 4 ∷ 0 ∷ 0 ∷ []) Bad ∷ first (12 ∷ 4 ∷ 233 ∷ 3 ∷ []) Bad
+    ∷ stopped (12 ∷ 4 ∷ 0 ∷ 0 ∷ []) ∷ stopped (12 ∷ 4 ∷ 233 ∷ 3 ∷ [])
     -- "kind 0 still means 100"; 1000 is 232 + 3 * 256
-    ∷ first (0 ∷ 1 ∷ []) (Opens 1 100 2) ∷ first (0 ∷ 64 ∷ 1 ∷ []) (Opens 64 100 2)
-    ∷ first (12 ∷ 64 ∷ 1 ∷ 0 ∷ []) (Opens 64 1 4) ∷ first (12 ∷ 4 ∷ 232 ∷ 3 ∷ 7 ∷ []) (Opens 4 1000 4)
+    ∷ first (0 ∷ 1 ∷ []) (opens 1 100 2) ∷ first (0 ∷ 64 ∷ 1 ∷ []) (opens 64 100 2)
+    ∷ first (12 ∷ 64 ∷ 1 ∷ 0 ∷ []) (opens 64 1 4) ∷ first (12 ∷ 4 ∷ 232 ∷ 3 ∷ 7 ∷ []) (opens 4 1000 4)
     ∷ []
 
 -- ---- event records, at places from 2 on

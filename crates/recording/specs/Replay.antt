@@ -1,6 +1,6 @@
 -- Replaying a recording: what its events do to a fresh machine, the totals, and the time that each CPU had a real-time task.
 -- Assumes nothing.
-use Rattle.std.specs.Prelude.{Bool, cond, not, List, [], ◌∷◌, ◌++◌, ℕ, ◌+◌, ◌-◌, ◌*◌, ◌%◌, ◌^◌, eqb, take, drop, replicate}
+use Rattle.std.specs.Prelude.{Bool, cond, not, Ok, Err, List, [], ◌∷◌, ◌++◌, ℕ, ◌+◌, ◌-◌, ◌*◌, ◌%◌, ◌^◌, eqb, take, drop, replicate}
 use Rattle.bits.specs.Bit.{digit}
 use Rattle.levels.specs.declared.record.Record.{Record}
 use Rattle.rules.specs.Machine.{task_places, cpu_places}
@@ -11,10 +11,8 @@ use Rattle.rules.specs.Tables.{Tables, lent, lengths_fit}
 use Rattle.rules.specs.Entry.{Result, made, handled}
 use Rattle.recording.specs.declared.Event.{Event}
 use Rattle.recording.specs.declared.Ending.{Ending}
-use Rattle.recording.specs.declared.Ending.TheVariants.{Cut, Stopped}
-use Rattle.recording.specs.declared.First.{First}
-use Rattle.recording.specs.declared.First.TheVariants.{Missing, Bad, Opens}
-use Rattle.recording.specs.Reading.{first_of, Reading, reading, recorded_slice}
+use Rattle.recording.specs.declared.Ending.TheVariants.{Stopped}
+use Rattle.recording.specs.Reading.{First, first_of, Reading, reading, recorded_slice}
 
 -- ---- time
 
@@ -132,9 +130,8 @@ abbrev pub played_on : ℕ → ℕ → Reading → Record → Tables → Run
 played_on n full x r s = runs n x.events (begun (made n r (part_of n full s)) (first_stamp x.events))
 
 abbrev pub played : List ℕ → Record → Tables → First → Replayed
-played bs r s Missing = unplayed 0 Cut r s
-played bs r s Bad = unplayed 0 Stopped r s
-played bs r s (Opens n full p) = reported n (reading p bs) s (played_on n full (reading p bs) r s)
+played bs r s (Err x) = unplayed 0 x r s
+played bs r s (Ok o) = reported o.n (reading o.end bs) s (played_on o.n o.full (reading o.end bs) r s)
 
 -- a recording, on tables lent for 64 CPUs
 unfoldable pub replayed : List ℕ → Record → Tables → Replayed

@@ -29,26 +29,26 @@ pub struct Event {
 }
 
 // How a recording ends: behind a record, within one, or at one that stops the replay.
-#[derive(Clone, Copy)]
+#[derive(Clone, Copy, PartialEq, Eq, Debug)]
 pub enum Ending {
     Whole,
     Cut,
     Stopped,
 }
 
-// What stands at a place: the end, or an event record and the place behind it.
+// An event record that stands at a place, and the place behind it.
 #[derive(Clone, Copy)]
-pub enum Item {
-    Ends(Ending),
-    Holds { event: Event, end: usize },
+pub struct Held {
+    pub event: Event,
+    pub end: usize,
 }
 
-// The first record: cut, one that stops the replay, or a machine of n CPUs with a full slice of so many ticks, and the place behind it.
+// What a first record opens: a machine of n CPUs with a full slice of so many ticks; and the place behind it.
 #[derive(Clone, Copy)]
-pub enum First {
-    Missing,
-    Bad,
-    Opens { n: usize, full: u16, end: usize },
+pub struct Opening {
+    pub n: usize,
+    pub full: u16,
+    pub end: usize,
 }
 
 // What a replay carries along: its machine's full slice, the moves and the refused events so far, and the last event's stamp.

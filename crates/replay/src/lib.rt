@@ -7,12 +7,10 @@ ghost use Rattle.levels.specs.Record.{lent_record};
 ghost use Rattle.lenttables.specs.Lent.{lent};
 ghost use Rattle.replay.specs.Entry.{told, ending_number, lent_replayed};
 
-use blank::fill::fill_u64;
 use cpupri::record::CPUS;
-use lentrecord::{lengths_fit, read, write};
+use lentrecord::{EMPTY, lengths_fit, load, write};
 use recording::Ending;
-use rules::answer::BAD_SIZE;
-use whole::copy::copy_u64;
+use rules::answer::{ACCEPTED, Refusal};
 
 // Replays a recording on a fresh machine, in tables for 64 CPUs: 0, with what is reported, or 1 if a table, also `times`, has another
 // length. On 1, and without a good first record, all that is reported is 0 but the ending, and every table is as it was.
@@ -48,7 +46,7 @@ pub extern "C" fn qoriwesh_replay(
         let t = lent full.new state.new policy.new prio.new cpu.new slice.new mask.new rows.new counts.new flags.new online.new log.new in
         told result ending.new place.new n.new times.new moves.new refused.new q t ≡ lent_replayed bytes.now r s (length times.old) }
 {
-    fill_u64(times, 0);
+    times.fill(0);
     *ending = number(Ending::Stopped);
     *place = 0;
     *n = 0;
@@ -62,24 +60,41 @@ pub extern "C" fn qoriwesh_replay(
         levels.len(),
     ) & (times.len() == CPUS))
     {
-        return BAD_SIZE;
+        return Refusal::BadSize.number();
     }
-    let given = read(level_masks, level_counts, level_words, levels);
+    let mut record = EMPTY;
+    load(level_masks, level_counts, level_words, levels, &mut record);
     let mut spent = [0u64; CPUS];
-    let o = night::replay(
-        bytes, state, policy, prio, cpu, slice, mask, rows, counts, flags, online, log, &mut spent,
-        given,
+    let replayed = night::replay(
+        bytes,
+        state,
+        policy,
+        prio,
+        cpu,
+        slice,
+        mask,
+        rows,
+        counts,
+        flags,
+        online,
+        log,
+        &mut record,
+        &mut spent,
     );
-    let how = o.ending;
-    *ending = number(how);
-    *place = o.place;
-    *n = o.n;
-    *full = o.full as u32;
-    *moves = o.moves;
-    *refused = o.refused;
-    copy_u64(&spent, times);
-    write(o.record, level_masks, level_counts, level_words, levels);
-    o.answer
+    times.copy_from_slice(&spent);
+    write(&record, level_masks, level_counts, level_words, levels);
+    match replayed {
+        Ok(report) => {
+            *ending = number(report.ending);
+            *place = report.place;
+            *n = report.n;
+            *full = report.full as u32;
+            *moves = report.moves;
+            *refused = report.refused;
+            ACCEPTED
+        }
+        Err(refusal) => refusal.number(),
+    }
 }
 
 // How a recording ends, as C has it.

@@ -21,6 +21,11 @@ module _ {P : Type 0} where
   said true s p = refl
   said false s p = absurd (s p)
 
+-- another statement, where each of the two follows from the other
+pub as_well : {P Q : Type 0} → (b : Bool) → (P → Q) → (Q → P) → Says b P → Says b Q
+as_well true f g s = f s
+as_well false f g s = λ q. s (g q)
+
 -- what is promised of a test that passes, where it fails
 pub never : {P : Type 0} → false ≡ true → P
 never e = absurd (false≢true e)

@@ -13,7 +13,7 @@ pub fn add(marks: &mut [u64; WORDS], task: usize) -> bool
     requires marks_len { length marks.old ≡ set_words }
     requires task_lt_task_places { task < task_places }
     ensures value { result ≡ not (marked marks.old task) }
-    ensures marks_len_2 { result ≡ true → (length marks.new ≡ set_words)
+    ensures joined { result ≡ true → (length marks.new ≡ set_words)
         × ((u : ℕ) → mark marks.new u ≡ mark marks.old u + digit (eqb u task)) }
 {
     let word = task / BITS;

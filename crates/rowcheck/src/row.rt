@@ -1,5 +1,5 @@
 // The pass over one row: the places in use, the unused ones, the flag and the level.
-ghost use Rattle.std.specs.Prelude.{◌≡◌, true, ℕ, ◌≤◌, ◌<◌, length, get_or, take};
+ghost use Rattle.std.specs.Prelude.{◌≡◌, true, ℕ, ◌≤◌, ◌<◌, length, get_or};
 ghost use Rattle.rules.specs.Machine.{task_places, row_level};
 ghost use Rattle.rowcheck.specs.Says.{Says};
 ghost use Rattle.rowcheck.specs.Placed.{set_words, Stands, AllStand, Once, Marks, Unused, Row};
@@ -40,7 +40,7 @@ pub fn row_fits(
     if !tasks_stand(c, row, k, state, prio, cpu, marks) {
         return false;
     }
-    unused(row, k) & (flag <= 1) & level_fits(row, k, idle, level, prio)
+    unused(row, k) & (flag <= 1) & level_fits(&row[..k], idle, level, prio)
 }
 
 // The tasks of a row: each may stand there, and none is in the set yet.
@@ -59,9 +59,8 @@ fn tasks_stand(
     ensures marks { result ≡ true → Marks marks.old row.now count marks.new }
 {
     let mut bound = TOP;
-    let mut i = 0;
-    while i < count {
-        let task = row[i] as usize;
+    for &place in &row[..count] {
+        let task = place as usize;
         if !stands(c, task, bound, state, prio, cpu) {
             return false;
         }
@@ -69,7 +68,6 @@ fn tasks_stand(
             return false;
         }
         bound = prio[task];
-        i += 1;
     }
     true
 }
@@ -92,24 +90,22 @@ fn unused(row: &[u16], count: usize) -> bool
     ensures { Says result (Unused row.now count) }
 {
     let mut all = true;
-    let mut i = count;
-    while i < PLACES {
-        all = all & (row[i] == NOTHING);
-        i += 1;
+    for &place in &row[count..PLACES] {
+        all = all & (place == NOTHING);
     }
     all
 }
 
-// Whether a CPU's level is its first task's or, for an empty row, `idle`.
-fn level_fits(row: &[u16], count: usize, idle: u8, level: u8, prio: &[u8]) -> bool
-    requires row_len { (length row.now ≡ task_places) × (length prio.now ≡ task_places) }
-    requires by_index { (i : ℕ) → i < count → get_or row.now i 0 < task_places }
-    ensures { Says result (level ≡ row_level (λ u. get_or prio.now u 0) idle (take count row.now)) }
+// Whether a CPU's level is that of the first of its tasks or, if it has none, `idle`.
+fn level_fits(tasks: &[u16], idle: u8, level: u8, prio: &[u8]) -> bool
+    requires prio_len { length prio.now ≡ task_places }
+    requires task_numbers { (i : ℕ) → i < length tasks.now → get_or tasks.now i 0 < task_places }
+    ensures { Says result (level ≡ row_level (λ u. get_or prio.now u 0) idle tasks.now) }
 {
-    if count == 0 {
+    if tasks.is_empty() {
         return level == idle;
     }
-    let first = row[0] as usize;
+    let first = tasks[0] as usize;
     // in 16 bits, since a priority may be any byte here
     (level as u16) == (prio[first] as u16) + REAL_TIME
 }

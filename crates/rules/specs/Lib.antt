@@ -28,6 +28,7 @@ pub mod WellFormed
 pub mod Events
 pub mod Plan
 pub mod Refusals
+pub mod Answers
 pub mod Migration
 pub mod Outcome
 pub mod Cases

@@ -5,7 +5,7 @@ use mathlib.Core.List.{List, [], ◌∷◌, ◌++◌}
 use Prim.Native.Nat.{ℕ, zero, suc, ◌+◌, ◌-◌, ◌*◌, ◌≤◌, ◌<◌}
 use native.Mathlib.Omega.{arith}
 use lib.ListN.{length, get_or, set, take, drop, replicate}
-use lib.Seq.{take_at, drop-drop, get_or-drop, get_or-take}
+use lib.Seq.{take_at, take-take, drop-drop, get_or-drop, get_or-take}
 use Rattle.rules.specs.Machine.{task_places}
 use Rattle.rules.specs.Tables.{nothing, rows_of, padded, flat_of, row_counts}
 use Rattle.laws.proofs.Tables.{Fitting, read_written, length_rows_of, length_flat, flat_row, flat_set, counts_set}
@@ -103,6 +103,10 @@ as_counted c P p =
 abbrev pub lent_part : List ℕ → ℕ → List ℕ
 lent_part rows c = take (c * 512 + 512 - c * 512) (drop (c * 512) rows)
 
+-- the tasks alone in it
+abbrev pub lent_tasks : List ℕ → ℕ → ℕ → List ℕ
+lent_tasks rows c count = take (c * 512 + count - c * 512) (drop (c * 512) rows)
+
 -- the flat table with another part in its place
 abbrev pub with_part : List ℕ → ℕ → List ℕ → List ℕ
 with_part rows c part = take (c * 512) rows ++ (part ++ drop (c * 512 + 512 - c * 512) (drop (c * 512) rows))
@@ -113,6 +117,13 @@ module _ {counts rows : List ℕ} (held : HoldsRows counts rows) (c : ℕ) (hc :
 
   pub lent_row : take (get_or counts c 0) (lent_part rows c) ≡ row_at counts rows c
   lent_row = as_counted c (λ (s k : ℕ). take (get_or counts c 0) (take k (drop s rows)) ≡ row_at counts rows c) (part_taken counts rows held c hc)
+
+  pub tasks_row : lent_tasks rows c (get_or counts c 0) ≡ row_at counts rows c
+  tasks_row =
+      let start : c * 512 ≡ task_places * c = omega arith in
+      let size : c * 512 + get_or counts c 0 - c * 512 ≡ get_or counts c 0 = omega arith in
+      ap₂ (λ (s n : ℕ). take n (drop s rows)) start size
+      ∙ sym (take-take (get_or counts c 0) task_places (drop (task_places * c) rows) lent_held.most) ∙ part_taken counts rows held c hc
 
   pub lent_become : (q : List ℕ) {part : List ℕ} → part ≡ padded q → with_part rows c part ≡ flat_of (rows_with counts rows c q)
   lent_become q e =

@@ -1,5 +1,5 @@
 -- The laws of run queues in tables.
-pub mod Shift
+pub mod Stored
 pub mod Queued
 pub mod Reordered
 pub mod Flat

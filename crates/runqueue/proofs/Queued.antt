@@ -19,7 +19,7 @@ use Rattle.ranking.specs.Row.{HoldsRow, ahead}
 use Rattle.ranking.proofs.Places.{delete_before, delete_after, insert_before_lem, insert_at, insert_after, ahead_le, padded_in, padded_out}
 use Rattle.ranking.proofs.Held.{row_size, in_queue, behind, place_below}
 use Rattle.runqueue.specs.Row.{Closed, Opened}
-use Rattle.runqueue.proofs.Shift.{stored}
+use Rattle.runqueue.proofs.Stored.{stored}
 
 -- places that hold a run queue with the task put in: those ahead of it, the task, those behind it, and nothing
 pub inserted_is : (p : ℕ → Bool) (task : ℕ) (r zs : List ℕ) → length r < task_places → length zs ≡ task_places

@@ -18,7 +18,7 @@ use Rattle.runqueue.specs.Row.{Reorderable, Closed, Opened}
 use Rattle.ranking.proofs.Places.{delete_before, delete_after, ahead_is, ahead_before, ahead_here, ahead_le}
 use Rattle.ranking.proofs.Held.{row_size, in_queue, behind, place_below}
 use Rattle.runqueue.proofs.Queued.{inserted_is}
-use Rattle.runqueue.proofs.Shift.{stored}
+use Rattle.runqueue.proofs.Stored.{stored}
 
 module _ {count : ℕ} {xs : List ℕ} (held : HoldsRow count xs) {prio : List ℕ} (prios : length prio ≡ task_places) {task : ℕ} (may : Reorderable prio task (take count xs)) where
   abbrev pub from : ℕ
@@ -49,10 +49,9 @@ module _ {count : ℕ} {xs : List ℕ} (held : HoldsRow count xs) {prio : List �
   task_at_lem k h = may.tasks (get_or others k 0) (in_delete task (get_or others k 0) (take count xs) (in_get_or others k h))
 
   -- places that are those of others from one on
-  ordered_as : (ys : List ℕ) (n d : ℕ) → n ≤ length ys → n + d ≤ length others → ((k : ℕ) → k < n → get_or ys k 0 ≡ get_or others (k + d) 0) → Ordered prio ys n
-  ordered_as ys n d h l e =
+  ordered_as : (ys : List ℕ) (d : ℕ) → length ys + d ≤ length others → ((k : ℕ) → k < length ys → get_or ys k 0 ≡ get_or others (k + d) 0) → Ordered prio ys
+  ordered_as ys d l e =
       record {
-        most = h;
         prios = prios;
         tasks = λ k b. subst (λ (u : ℕ). u < task_places) (sym (e k b)) (task_at_lem (k + d) (omega arith));
         falls = λ j k b c.
@@ -61,30 +60,29 @@ module _ {count : ℕ} {xs : List ℕ} (held : HoldsRow count xs) {prio : List �
       }
 
   module _ (at : ℕ) (e : at ≡ from) where
-    pub ordered_before : Ordered prio xs at
+    pub ordered_before : Ordered prio (take at xs)
     ordered_before =
-        ordered_as xs at 0 (omega (arith, from_below, row_size count xs held, held.most)) (omega (arith, from_below, others_size))
-        (λ k h. let same : k + 0 ≡ k = omega arith in sym (ap (λ (j : ℕ). get_or others j 0) same ∙ before_it k (omega arith)))
+        let size : length (take at xs) ≡ at = length-take-le at xs (omega (arith, from_below, row_size count xs held, held.most)) in
+        ordered_as (take at xs) 0 (omega (arith, size, from_below, others_size))
+        (λ k h.
+        let same : k + 0 ≡ k = omega arith in
+        get_or-take at xs k 0 (omega (arith, size)) ∙ sym (ap (λ (j : ℕ). get_or others j 0) same ∙ before_it k (omega (arith, size))))
 
-    -- the part of the row behind it
-    abbrev part : List ℕ
-    part = take (512 - (at + 1)) (drop (at + 1) xs)
-
-    -- the tasks in it
+    -- the tasks behind it
     abbrev behind_part : List ℕ
-    behind_part = take (count - (at + 1)) part
+    behind_part = take (count - (at + 1)) (drop (at + 1) xs)
 
-    part_at : (k : ℕ) → k < count - (at + 1) → get_or part k 0 ≡ get_or others (k + from) 0
+    part_at : (k : ℕ) → k < count - (at + 1) → get_or behind_part k 0 ≡ get_or others (k + from) 0
     part_at k h =
         let same : at + 1 + k ≡ suc (k + from) = omega arith in
-        get_or-take (512 - (at + 1)) (drop (at + 1) xs) k 0 (omega (arith, held.most)) ∙ get_or-drop (at + 1) xs k 0
+        get_or-take (count - (at + 1)) (drop (at + 1) xs) k 0 h ∙ get_or-drop (at + 1) xs k 0
         ∙ ap (λ (j : ℕ). get_or xs j 0) same ∙ sym (behind_it (k + from) (omega arith) (omega arith))
 
-    part_size : length part ≡ 512 - (at + 1)
-    part_size = length-take-le (512 - (at + 1)) (drop (at + 1) xs) (omega (arith, length-drop (at + 1) xs, row_size count xs held))
+    part_size : length behind_part ≡ count - (at + 1)
+    part_size = length-take-le (count - (at + 1)) (drop (at + 1) xs) (omega (arith, length-drop (at + 1) xs, row_size count xs held, held.most))
 
-    pub ordered_behind : Ordered prio part (count - (at + 1))
-    ordered_behind = ordered_as part (count - (at + 1)) from (omega (arith, part_size, held.most)) (omega (arith, others_size, from_below)) part_at
+    pub ordered_behind : Ordered prio behind_part
+    ordered_behind = ordered_as behind_part from (omega (arith, part_size, others_size, from_below)) (λ k h. part_at k (omega (arith, part_size)))
 
   -- ---- how many of the others stand ahead of its new place
 
@@ -113,7 +111,7 @@ module _ {count : ℕ} {xs : List ℕ} (held : HoldsRow count xs) {prio : List �
         ∙ ahead_here p (behind_part at e) (omega (arith, size, others_size, from_below))))
       where
         size : length (behind_part at e) ≡ count - (at + 1)
-        size = length-take-le (count - (at + 1)) (part at e) (omega (arith, part_size at e, held.most))
+        size = part_size at e
 
         most : more ≤ count - (at + 1)
         most = omega (arith, ahead_le p (behind_part at e), size)
@@ -121,7 +119,7 @@ module _ {count : ℕ} {xs : List ℕ} (held : HoldsRow count xs) {prio : List �
         same_at : (j : ℕ) → j < count - (at + 1) → get_or (behind_part at e) j 0 ≡ get_or others (at + j) 0
         same_at j l =
             let same : j + from ≡ at + j = omega arith in
-            get_or-take (count - (at + 1)) (part at e) j 0 l ∙ part_at at e j l ∙ ap (λ (i : ℕ). get_or others i 0) same
+            part_at at e j l ∙ ap (λ (i : ℕ). get_or others i 0) same
 
         go : (k : ℕ) → k < at + more → (t : Bool) → ltb k at ≡ t → p (get_or others k 0) ≡ false
         go k l true t =

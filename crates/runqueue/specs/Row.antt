@@ -1,9 +1,13 @@
--- One row of 512 places: in which a task can take another place, and what moving a part of it by one place does.
+-- One row of 512 places: what a place holds, in which a task can take another place, and what moving a part of it by one place does.
 -- Assumes nothing.
-use Rattle.std.specs.Prelude.{◌≡◌, List, ℕ, suc, ◌≤◌, ◌<◌, length, get_or}
+use Rattle.std.specs.Prelude.{◌≡◌, cond, Option, Some, None, List, ℕ, suc, ◌≤◌, ◌<◌, eqb, length, get_or}
 use Rattle.rules.specs.Lists.{In, Falling, delete}
 use Rattle.rules.specs.Machine.{task_places}
 use Rattle.rules.specs.Tables.{nothing}
+
+-- the task in a place, if it is in use
+abbrev pub task_in : ℕ → Option ℕ
+task_in p = cond (eqb p nothing) None (Some p)
 
 -- a run queue in which a task can take another place: it holds task numbers, the others in the order of their priorities
 pub record Reorderable (prio : List ℕ) (task : ℕ) (r : List ℕ) : Type 0 where

@@ -4,21 +4,32 @@ ghost use Rattle.rules.specs.Lists.{In, Falling, delete};
 ghost use Rattle.rules.specs.Machine.{task_places, highest_priority, queued, entry_key};
 ghost use Rattle.rules.specs.Tables.{padded};
 ghost use Rattle.ranking.specs.Row.{HoldsRow};
-ghost use Rattle.runqueue.specs.Row.{Reorderable, Closed, Opened};
+ghost use Rattle.runqueue.specs.Row.{Reorderable, Closed, Opened, task_in};
 
 use ranking::{position, rank};
 
 pub const PLACES: usize = 512;
 
+// what an unused place of a row holds
 pub const NOTHING: u16 = 65535;
+
+// The task that stands in a place of a row, if it is in use.
+pub fn task_in(place: u16) -> Option<u16>
+    ensures { result ≡ task_in place }
+{
+    if place == NOTHING {
+        return None;
+    }
+    Some(place)
+}
 
 // The task leaves, those behind it close up, and the freed place holds nothing.
 pub fn remove(row: &mut [u16], count: usize, task: u16)
     requires holds_row { HoldsRow count row.old }
-    requires fact { In task (take count row.old) }
+    requires stands { In task (take count row.old) }
     ensures { row.new ≡ padded (delete task (take count row.old)) }
 {
-    let at = position(row, count, task);
+    let at = position(row, task);
     shift_down(row, at, count);
 }
 
@@ -27,11 +38,11 @@ pub fn insert(row: &mut [u16], prio: &[u8], count: usize, task: u16, key: u8)
     requires holds_row { HoldsRow count row.old }
     requires count_lt_task_places { count < task_places }
     requires prio_len { length prio.now ≡ task_places }
-    requires by_index { (i : ℕ) → i < count → get_or row.old i 0 < task_places }
+    requires task_numbers { (i : ℕ) → i < count → get_or row.old i 0 < task_places }
     requires falling { Falling (λ u. get_or prio.now u 0) (take count row.old) }
     ensures { row.new ≡ padded (queued key (λ u. get_or prio.now u 0) task (take count row.old)) }
 {
-    let at = rank(row, prio, count, key);
+    let at = rank(&row[..count], prio, key);
     shift_up(row, at, count);
     row[at] = task;
 }
@@ -44,15 +55,15 @@ pub fn reorder(row: &mut [u16], prio: &[u8], count: usize, task: u16, key: u8)
     requires reorderable { Reorderable prio.now task (take count row.old) }
     ensures { row.new ≡ padded (queued key (λ u. get_or prio.now u 0) task (delete task (take count row.old))) }
 {
-    let at = position(row, count, task);
-    let to = rank(row, prio, at, key);
+    let at = position(row, task);
+    let to = rank(&row[..at], prio, key);
     if to < at {
         shift_up(row, to, at);
         row[to] = task;
         return;
     }
     let next = at + 1;
-    let behind = rank(&row[next..PLACES], prio, count - next, key);
+    let behind = rank(&row[next..count], prio, key);
     shift_down(row, at, next + behind);
     row[at + behind] = task;
 }
@@ -68,16 +79,15 @@ pub fn entry_key(front: bool, priority: u8) -> u8
     priority
 }
 
-// The places from at + 1 to count - 1 move down by one, and the last of them holds nothing.
+// The places from at + 1 to count - 1 move down by one, and the last of them holds nothing. Here and in `shift_up` the places move in a
+// loop, which the compiler makes 16 bytes at a time: `copy_within` becomes a call of `memmove`, which takes longer where rows are short.
 fn shift_down(row: &mut [u16], at: usize, count: usize)
     requires at_lt_count { at < count }
     requires count_in_bounds { count ≤ length row.old }
     ensures { Closed at count row.old row.new }
 {
-    let mut i = at + 1;
-    while i < count {
+    for i in at + 1..count {
         row[i - 1] = row[i];
-        i += 1;
     }
     row[count - 1] = NOTHING;
 }
@@ -88,9 +98,7 @@ fn shift_up(row: &mut [u16], at: usize, count: usize)
     requires count_in_bounds { count < length row.old }
     ensures { Opened at count row.old row.new }
 {
-    let mut i = count;
-    while at < i {
-        row[i] = row[i - 1];
-        i -= 1;
+    for i in (at..count).rev() {
+        row[i + 1] = row[i];
     }
 }

@@ -12,10 +12,10 @@ use super::row;
 pub fn dequeue(rows: &mut [u16], counts: &mut [u16], cpu: usize, task: u16)
     requires holds_rows { HoldsRows counts.old rows.old }
     requires cpu_in_bounds { cpu < length counts.old }
-    requires fact { In task (row_at counts.old rows.old cpu) }
-    ensures fact_1 { let left = rows_with counts.old rows.old cpu (delete task (row_at counts.old rows.old cpu)) in
+    requires stands { In task (row_at counts.old rows.old cpu) }
+    ensures rows_are { let left = rows_with counts.old rows.old cpu (delete task (row_at counts.old rows.old cpu)) in
         rows.new ≡ flat_of left }
-    ensures fact_2 { let left = rows_with counts.old rows.old cpu (delete task (row_at counts.old rows.old cpu)) in
+    ensures counts_are { let left = rows_with counts.old rows.old cpu (delete task (row_at counts.old rows.old cpu)) in
         counts.new ≡ row_counts left }
 {
     let start = cpu * row::PLACES;

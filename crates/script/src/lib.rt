@@ -22,12 +22,13 @@ ghost use Rattle.std.specs.Prelude.{◌≤◌, IfOk, length};
 mod line;
 mod tables;
 
-use line::{Line, small, word};
-use rules::answer::ACCEPTED;
-use rules::log::{ENTRIES, ENTRY, LOG};
+use line::{Numbers, small, word};
+use plans::event::Event;
+use rules::answer::{ACCEPTED, Refusal};
+use rules::log::ENTRY;
 use std::io;
 use std::io::{Read, Write};
-use tables::{Event, Tables};
+use tables::Tables;
 
 const ADD: u32 = 1;
 
@@ -43,6 +44,7 @@ fn filled<R: Read>(input: &mut R, text: &mut [u8]) -> io::Result<usize>
     ensures { IfOk result (λ n. n ≤ length text.new) }
 {
     let mut done = 0;
+    // reads until the input ends, however much each gives
     while done < text.len() {
         let n = input.read(&mut text[done..])?;
         if n == 0 {
@@ -55,73 +57,53 @@ fn filled<R: Read>(input: &mut R, text: &mut [u8]) -> io::Result<usize>
 
 // Line after line.
 fn lines<W: Write>(out: &mut W, text: &[u8]) -> io::Result<()> {
-    let mut t = Tables::fresh(0, false, 0);
-    let mut at = 0;
-    while at < text.len() {
-        let line = line::read(text, at);
-        let end = line.end;
-        echo(out, text, at, end)?;
-        t = done(out, t, line)?;
-        at = end + 1;
-    }
-    Ok(())
-}
-
-// Prints a line, unless it is for the reader of the script alone.
-fn echo<W: Write>(out: &mut W, text: &[u8], from: usize, end: usize) -> io::Result<()>
-    requires from_le_end { from ≤ end }
-    requires end_in_bounds { end ≤ length text.now }
-{
-    if line::byte_at(text, from) != b'#' {
-        print::text(out, &text[from..end])?;
+    let mut tables = Tables::new();
+    for line in text.split_inclusive(|byte| *byte == b'\n') {
+        let line = line.strip_suffix(b"\n").unwrap_or(line);
+        let first = line.first().copied().unwrap_or(b'\n');
+        // a line for the reader of the script alone
+        if first != b'#' {
+            print::text(out, line)?;
+            done(out, &mut tables, first, Numbers::read(line))?;
+        }
     }
     Ok(())
 }
 
 // What a line asks for, with its answer printed.
-fn done<W: Write>(out: &mut W, t: Tables, line: Line) -> io::Result<Tables> {
-    let x = line.numbers;
-    let first = line.first;
+fn done<W: Write>(out: &mut W, tables: &mut Tables, first: u8, x: Numbers) -> io::Result<()> {
     match first {
-        b'#' => Ok(t),
-        b'f' => made(out, Tables::fresh(small(x.d), true, word(x.e))),
-        b'd' => made(out, Tables::fresh(small(x.e), false, 0)),
-        b'h' => silent(out, t.handing(word(x.e))),
-        b'c' => checked(out, t),
-        b'l' => silent(out, t.put(x.c, x.d, x.e)),
-        b'g' => silent(out, t.give(x.b, x.c, x.d, x.e)),
-        b'n' => silent(out, t.lending(small(x.e))),
-        b'a' | b'k' | b'm' | b'o' | b'p' | b'r' | b's' | b't' | b'w' | b'y' => asked(
-            out,
-            t,
-            event(line),
-        ),
-        _ => silent(out, t),
+        b'f' => return made(out, tables, small(x.d), Some(word(x.e))),
+        b'd' => return made(out, tables, small(x.e), None),
+        b'c' => return print::answer(out, number(tables.check())),
+        b'a' | b'k' | b'm' | b'o' | b'p' | b'r' | b's' | b't' | b'w' | b'y' => {
+            return asked(out, tables, event(first, x));
+        }
+        b'h' => tables.full = word(x.e),
+        b'l' => tables.put(x.c, x.d, x.e),
+        b'g' => tables.give(x.b, x.c, x.d, x.e),
+        b'n' => tables.lent = small(x.e),
+        _ => {}
     }
-}
-
-// Nothing is answered.
-fn silent<W: Write>(out: &mut W, t: Tables) -> io::Result<Tables> {
-    print::text(out, b"\n")?;
-    Ok(t)
+    print::text(out, b"\n")
 }
 
 // A fresh machine, with the maker's answer.
-fn made<W: Write>(out: &mut W, t: Tables) -> io::Result<Tables> {
-    let last = t.last;
-    print::made(out, last.answer, t.full)?;
-    Ok(t)
+fn made<W: Write>(out: &mut W, tables: &mut Tables, n: u8, ticks: Option<u32>) -> io::Result<()> {
+    let answer = tables.make(n, ticks);
+    print::made(out, number(answer), tables.full)
 }
 
-fn checked<W: Write>(out: &mut W, t: Tables) -> io::Result<Tables> {
-    print::answer(out, t.check())?;
-    Ok(t)
+// 0, or the refusal's number.
+fn number<T: Copy>(answer: Result<T, Refusal>) -> u8 {
+    match answer {
+        Ok(_) => ACCEPTED,
+        Err(refusal) => refusal.number(),
+    }
 }
 
 // The event of a line: its last four numbers; an event by its kind has that before them.
-fn event(line: Line) -> Event {
-    let x = line.numbers;
-    let first = line.first;
+fn event(first: u8, x: Numbers) -> Event {
     let kind = match first {
         b'a' => ADD,
         b'r' => 2,
@@ -143,47 +125,25 @@ fn event(line: Line) -> Event {
     }
 }
 
-// An event with its answer.
-fn asked<W: Write>(out: &mut W, t: Tables, e: Event) -> io::Result<Tables> {
-    let after = t.event(e);
-    told(out, after, e.kind)?;
-    Ok(after)
-}
-
-// The answer to an event of this kind, and the tables after it unless it was refused or an add.
-fn told<W: Write>(out: &mut W, t: Tables, kind: u32) -> io::Result<()> {
-    let last = t.last;
-    let log = t.log;
-    print::answered(out, last.answer, last.moves)?;
-    entries(out, last.moves, log)?;
-    print::text(out, b"\n")?;
-    if last.answer == ACCEPTED && kind != ADD {
-        shown(out, t)?;
+// An event with its answer, the log's entries, as many as there were moves, and the tables after it unless it was refused or an add.
+fn asked<W: Write>(out: &mut W, tables: &mut Tables, event: Event) -> io::Result<()> {
+    let answer = tables.event(event);
+    let moves = answer.unwrap_or(0);
+    print::answered(out, number(answer), moves)?;
+    for entry in tables.log.chunks(ENTRY).take(moves as usize) {
+        print::tuple(out, entry)?;
     }
-    Ok(())
-}
-
-// The log's entries, as many as there were moves.
-fn entries<W: Write>(out: &mut W, moves: u32, log: [u16; LOG]) -> io::Result<()> {
-    for i in 0..ENTRIES {
-        if (i as u32) < moves {
-            print::tuple(out, &log[ENTRY * i..ENTRY * i + ENTRY])?;
-        }
+    print::text(out, b"\n")?;
+    if answer.is_ok() && event.kind != ADD {
+        shown(out, tables)?;
     }
     Ok(())
 }
 
 // The rows, counts and levels of the CPUs, and the tasks.
-fn shown<W: Write>(out: &mut W, t: Tables) -> io::Result<()> {
-    let rows = t.rows;
-    let counts = t.counts;
-    print::rows(out, t.n, &rows, &counts)?;
-    print::counts(out, t.n, &counts)?;
-    let record = t.record();
-    let levels = record.levels;
-    print::levels(out, t.n, &levels)?;
-    let state = t.state;
-    let cpu = t.cpu;
-    let slice = t.slice;
-    print::tasks(out, &state, &cpu, &slice)
+fn shown<W: Write>(out: &mut W, t: &Tables) -> io::Result<()> {
+    print::rows(out, t.n, &t.rows, &t.counts)?;
+    print::counts(out, t.n, &t.counts)?;
+    print::levels(out, t.n, &t.record.levels)?;
+    print::tasks(out, &t.state, &t.cpu, &t.slice)
 }

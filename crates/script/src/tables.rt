@@ -1,306 +1,222 @@
-// A machine's tables with its record, by value, and what can be done with them.
+// A machine's tables with its record, and what can be done with them.
 ghost use Rattle.std.specs.Prelude.{◌≤◌, ◌<◌};
 
 use super::line::{half, small};
-use cpupri::record::Record;
+use cpupri::record::{CPUS, LEVELS, Record};
 use defaultmaker::make_fresh_default;
-use machine::Outcome;
 use maker::{Made, make_fresh};
-use rules::answer::ACCEPTED;
+use plans::event::Event;
+use rules::answer::Refusal;
 use rules::log::LOG;
 use rules::task::{FIFO, RUNNABLE};
+use runqueue::row::PLACES;
 
-// The tables are lent for `lent` CPUs, the first of 65 rows, counts and flags; anything but n is a wrong length. The full slice is what the maker
-// handed back. The answer, the moves and the record are those of the last call.
+// Rows, counts and flags for one CPU more than a machine can have.
+const ROWS: usize = CPUS + 1;
+
+// The tables are lent for `lent` CPUs, the first of the rows, counts and flags; anything but n is a wrong length. The full slice is what
+// the maker handed back.
 #[derive(Clone, Copy)]
 pub struct Tables {
     pub n: u8,
     pub lent: u8,
-    pub state: [u8; 512],
-    pub policy: [u8; 512],
-    pub prio: [u8; 512],
-    pub cpu: [u8; 512],
-    pub slice: [u16; 512],
-    pub mask: [u64; 512],
-    pub rows: [u16; 33280],
-    pub counts: [u16; 65],
-    pub flags: [u8; 65],
-    pub log: [u16; LOG],
-    pub last: Outcome,
     pub full: u32,
+    pub state: [u8; PLACES],
+    pub policy: [u8; PLACES],
+    pub prio: [u8; PLACES],
+    pub cpu: [u8; PLACES],
+    pub slice: [u16; PLACES],
+    pub mask: [u64; PLACES],
+    pub rows: [u16; ROWS * PLACES],
+    pub counts: [u16; ROWS],
+    pub flags: [u8; ROWS],
     pub online: u64,
-}
-
-// The five numbers of an event.
-#[derive(Clone, Copy)]
-pub struct Event {
-    pub kind: u32,
-    pub who: u32,
-    pub a: u32,
-    pub b: u32,
-    pub mask: u64,
+    pub log: [u16; LOG],
+    pub record: Record,
 }
 
 // At most 65: a fresh machine of more is refused all the same.
 fn part(cpus: u8) -> usize
     ensures { result ≤ 65 }
 {
-    if cpus < 65 { cpus as usize } else { 65 }
-}
-
-// The maker that is told a full slice, or the one that is told none.
-fn make(
-    named: bool,
-    n: usize,
-    ticks: u32,
-    state: &mut [u8],
-    policy: &mut [u8],
-    prio: &mut [u8],
-    cpu: &mut [u8],
-    slice: &mut [u16],
-    mask: &mut [u64],
-    rows: &mut [u16],
-    counts: &mut [u16],
-    flags: &mut [u8],
-    online: &mut u64,
-    log: &mut [u16],
-    record: Record,
-) -> Made {
-    if named {
-        return make_fresh(
-            n, ticks, state, policy, prio, cpu, slice, mask, rows, counts, flags, online, log,
-            record,
-        );
+    if (cpus as usize) < ROWS {
+        cpus as usize
+    } else {
+        ROWS
     }
-    make_fresh_default(
-        n, state, policy, prio, cpu, slice, mask, rows, counts, flags, online, log, record,
-    )
 }
 
 impl Tables {
-    // A fresh machine of n CPUs, in tables that held something else. A full slice has so many ticks, if it is named.
-    pub fn fresh(n: u8, named: bool, ticks: u32) -> Tables {
-        let cpus = part(n);
-        let mut state = [1u8; 512];
-        let mut policy = [1u8; 512];
-        let mut prio = [1u8; 512];
-        let mut cpu = [1u8; 512];
-        let mut slice = [1u16; 512];
-        let mut mask = [1u64; 512];
-        let mut rows = [1u16; 33280];
-        let mut counts = [1u16; 65];
-        let mut flags = [1u8; 65];
-        let mut log = [1u16; LOG];
-        let mut online = 0u64;
-        let made = make(
-            named,
-            n as usize,
+    // Tables that hold no machine yet.
+    pub fn new() -> Tables {
+        Tables {
+            n: 0,
+            lent: 0,
+            full: 0,
+            state: [1; PLACES],
+            policy: [1; PLACES],
+            prio: [1; PLACES],
+            cpu: [1; PLACES],
+            slice: [1; PLACES],
+            mask: [1; PLACES],
+            rows: [1; ROWS * PLACES],
+            counts: [1; ROWS],
+            flags: [1; ROWS],
+            online: 0,
+            log: [1; LOG],
+            record: Record::fresh(0),
+        }
+    }
+
+    // A fresh machine of n CPUs: the maker's answer. A full slice has so many ticks, if they are named.
+    pub fn make(&mut self, n: u8, ticks: Option<u32>) -> Result<u32, Refusal> {
+        *self = Tables::new();
+        self.n = n;
+        self.lent = n;
+        let made = match ticks {
+            Some(ticks) => self.make_with(ticks),
+            None => self.make_default(),
+        };
+        self.record = made.record;
+        self.full = made.answer.unwrap_or(0);
+        made.answer
+    }
+
+    fn make_with(&mut self, ticks: u32) -> Made {
+        let cpus = part(self.lent);
+        let rows = &mut self.rows[..];
+        let counts = &mut self.counts[..];
+        let flags = &mut self.flags[..];
+        make_fresh(
+            self.n as usize,
             ticks,
-            &mut state,
-            &mut policy,
-            &mut prio,
-            &mut cpu,
-            &mut slice,
-            &mut mask,
-            &mut rows[..512 * cpus],
+            &mut self.state,
+            &mut self.policy,
+            &mut self.prio,
+            &mut self.cpu,
+            &mut self.slice,
+            &mut self.mask,
+            &mut rows[..PLACES * cpus],
             &mut counts[..cpus],
             &mut flags[..cpus],
-            &mut online,
-            &mut log,
-            Record::fresh(0),
-        );
-        Tables {
-            n,
-            lent: n,
-            state,
-            policy,
-            prio,
-            cpu,
-            slice,
-            mask,
-            rows,
-            counts,
-            flags,
-            log,
-            last: first(made),
-            full: made.full,
-            online,
-        }
-    }
-
-    // One event.
-    pub fn event(self, e: Event) -> Tables {
-        let cpus = part(self.lent);
-        let mut state = self.state;
-        let mut policy = self.policy;
-        let mut prio = self.prio;
-        let mut cpu = self.cpu;
-        let mut slice = self.slice;
-        let mut mask = self.mask;
-        let mut rows = self.rows;
-        let mut counts = self.counts;
-        let mut flags = self.flags;
-        let mut log = self.log;
-        let mut online = self.online;
-        let o = machine::event(
-            self.n as usize,
-            self.full,
-            &mut state,
-            &mut policy,
-            &mut prio,
-            &mut cpu,
-            &mut slice,
-            &mut mask,
-            &mut rows[..512 * cpus],
-            &mut counts[..cpus],
-            &mut flags[..cpus],
-            &mut online,
-            &mut log,
-            e.kind,
-            e.who,
-            e.a,
-            e.b,
-            e.mask,
-            self.record(),
-        );
-        Tables {
-            n: self.n,
-            lent: self.lent,
-            state,
-            policy,
-            prio,
-            cpu,
-            slice,
-            mask,
-            rows,
-            counts,
-            flags,
-            log,
-            last: o,
-            full: self.full,
-            online,
-        }
-    }
-
-    // The record, as the last call handed it back.
-    pub fn record(self) -> Record {
-        let last = self.last;
-        last.record
-    }
-
-    // The check of the tables: its answer.
-    pub fn check(self) -> u8 {
-        let cpus = part(self.lent);
-        let state = self.state;
-        let policy = self.policy;
-        let prio = self.prio;
-        let cpu = self.cpu;
-        let slice = self.slice;
-        let mask = self.mask;
-        let rows = self.rows;
-        let counts = self.counts;
-        let flags = self.flags;
-        let log = self.log;
-        let online = self.online;
-        checker::check::check(
-            self.n as usize,
-            self.full,
-            &state,
-            &policy,
-            &prio,
-            &cpu,
-            &slice,
-            &mask,
-            &rows[..512 * cpus],
-            &counts[..cpus],
-            &flags[..cpus],
-            &online,
-            &log,
-            self.record(),
+            &mut self.online,
+            &mut self.log,
+            self.record,
         )
     }
 
-    // The next calls lend the rows, counts and flags of so many CPUs.
-    pub fn lending(self, cpus: u8) -> Tables {
-        let mut t = self;
-        t.lent = cpus;
-        t
+    fn make_default(&mut self) -> Made {
+        let cpus = part(self.lent);
+        let rows = &mut self.rows[..];
+        let counts = &mut self.counts[..];
+        let flags = &mut self.flags[..];
+        make_fresh_default(
+            self.n as usize,
+            &mut self.state,
+            &mut self.policy,
+            &mut self.prio,
+            &mut self.cpu,
+            &mut self.slice,
+            &mut self.mask,
+            &mut rows[..PLACES * cpus],
+            &mut counts[..cpus],
+            &mut flags[..cpus],
+            &mut self.online,
+            &mut self.log,
+            self.record,
+        )
     }
 
-    // The next calls hand in a full slice of so many ticks.
-    pub fn handing(self, ticks: u32) -> Tables {
-        let mut t = self;
-        t.full = ticks;
-        t
+    // One event: its answer.
+    pub fn event(&mut self, event: Event) -> Result<u32, Refusal> {
+        let cpus = part(self.lent);
+        let rows = &mut self.rows[..];
+        let counts = &mut self.counts[..];
+        let flags = &mut self.flags[..];
+        let outcome = machine::event(
+            self.n as usize,
+            self.full,
+            &mut self.state,
+            &mut self.policy,
+            &mut self.prio,
+            &mut self.cpu,
+            &mut self.slice,
+            &mut self.mask,
+            &mut rows[..PLACES * cpus],
+            &mut counts[..cpus],
+            &mut flags[..cpus],
+            &mut self.online,
+            &mut self.log,
+            self.record,
+            event,
+        );
+        self.record = outcome.record;
+        outcome.answer
+    }
+
+    // The check of the tables: its answer.
+    pub fn check(&self) -> Result<(), Refusal> {
+        let cpus = part(self.lent);
+        checker::check::check(
+            self.n as usize,
+            self.full,
+            &self.state,
+            &self.policy,
+            &self.prio,
+            &self.cpu,
+            &self.slice,
+            &self.mask,
+            &self.rows[..PLACES * cpus],
+            &self.counts[..cpus],
+            &self.flags[..cpus],
+            &self.online,
+            &self.log,
+            self.record,
+        )
     }
 
     // One number of a table by itself, or the online mask. The tables are numbered in document 01's order.
-    pub fn put(self, table: u64, place: u64, value: u64) -> Tables {
-        let mut t = self;
-        let i = below(place, 512);
+    pub fn put(&mut self, table: u64, place: u64, value: u64) {
+        let i = below(place, PLACES);
         match table {
-            1 => t.state[i] = small(value),
-            3 => t.prio[i] = small(value),
-            4 => t.cpu[i] = small(value),
-            5 => t.slice[i] = half(value),
-            9 => t.flags[below(place, 65)] = small(value),
-            10 => t.online = value,
+            1 => self.state[i] = small(value),
+            3 => self.prio[i] = small(value),
+            4 => self.cpu[i] = small(value),
+            5 => self.slice[i] = half(value),
+            9 => self.flags[below(place, ROWS)] = small(value),
+            10 => self.online = value,
             _ => {}
         }
-        t
     }
 
     // A FIFO task that runs on an idle CPU, without an event. No other CPU may be at its level.
-    pub fn give(self, cpu: u64, task: u64, priority: u64, mask: u64) -> Tables {
-        let i = below(task, 512);
-        let mut t = self;
-        t.state[i] = RUNNABLE;
-        t.policy[i] = FIFO;
-        t.prio[i] = small(priority);
-        t.cpu[i] = small(cpu);
-        t.slice[i] = half(self.full as u64);
-        t.mask[i] = mask;
-        let row = below(cpu, 64);
-        t.rows[512 * row] = half(task);
-        t.counts[row] = 1;
-        t.last = with(busy(self.record(), row, below(priority, 100) + 2));
-        t
+    pub fn give(&mut self, cpu: u64, task: u64, priority: u64, mask: u64) {
+        let i = below(task, PLACES);
+        self.state[i] = RUNNABLE;
+        self.policy[i] = FIFO;
+        self.prio[i] = small(priority);
+        self.cpu[i] = small(cpu);
+        self.slice[i] = half(self.full as u64);
+        self.mask[i] = mask;
+        let row = below(cpu, CPUS);
+        self.rows[PLACES * row] = half(task);
+        self.counts[row] = 1;
+        busy(&mut self.record, row, below(priority, 100) + 2);
     }
 }
 
-// What a call would answer that did nothing but hand the record back.
-fn with(record: Record) -> Outcome {
-    Outcome {
-        answer: ACCEPTED,
-        moves: 0,
-        record,
-    }
-}
-
-// What a fresh machine starts with.
-fn first(made: Made) -> Outcome {
-    let record = made.record;
-    Outcome {
-        answer: made.answer,
-        moves: 0,
-        record,
-    }
-}
-
-// The record with an idle CPU at a level of its own.
-fn busy(record: Record, c: usize, level: usize) -> Record
+// The record has an idle CPU at a level of its own.
+fn busy(record: &mut Record, c: usize, level: usize)
     requires cpu { c < 64 }
     requires level { level < 102 }
 {
     let bit = 1u64 << c;
-    let mut r = record;
-    r.masks[0] = r.masks[0] & !bit;
-    r.counts[0] = one_less(r.counts[0]);
-    r.masks[level] = bit;
-    r.counts[level] = 1;
-    r.words[level / 64] = r.words[level / 64] | 1 << (level % 64);
-    r.levels[c] = level as u8;
-    r
+    record.masks[0] &= !bit;
+    record.counts[0] = record.counts[0].saturating_sub(1);
+    record.masks[level] = bit;
+    record.counts[level] = 1;
+    record.words[level / 64] |= 1 << (level % 64);
+    record.levels[c] = level as u8;
 }
 
 // A place below the end, the last if it is beyond.
@@ -313,8 +229,4 @@ fn below(place: u64, end: usize) -> usize
         return place as usize;
     }
     end - 1
-}
-
-fn one_less(x: u8) -> u8 {
-    if 0 < x { x - 1 } else { 0 }
 }

@@ -7,6 +7,7 @@ ghost use Rattle.stranding.specs.Stranding.{strands_by, any_stranded, LentMasks,
 
 use runqueue::row::PLACES;
 
+// a kind is a number where it is told apart, as in `deciding`
 const OFFLINE_KIND: u32 = 10;
 
 // Kind 10: whether a task of the CPU is allowed no other that is online. No other kind leaves a task so.
@@ -32,25 +33,21 @@ pub fn strands(
     let start = cpu * PLACES;
     let count = counts[cpu] as usize;
     any_stranded(
-        &rows[start..start + PLACES],
+        &rows[start..start + count],
         mask,
         bits::clear_bit(online, cpu),
-        count,
     )
 }
 
-// Whether one of the first `count` tasks of a row may use no CPU of `up`.
-fn any_stranded(row: &[u16], mask: &[u64], up: u64, count: usize) -> bool
-    requires { Listed mask.now row.now count }
-    ensures { result ≡ any_stranded mask.now up row.now count }
+// Whether one of these tasks may use no CPU of `up`.
+fn any_stranded(tasks: &[u16], mask: &[u64], up: u64) -> bool
+    requires { Listed mask.now tasks.now }
+    ensures { result ≡ any_stranded mask.now up tasks.now }
 {
-    let mut i = 0;
-    while i < count {
-        let task = row[i] as usize;
-        if mask[task] & up == 0 {
+    for &task in tasks {
+        if mask[task as usize] & up == 0 {
             return true;
         }
-        i += 1;
     }
     false
 }

@@ -2,16 +2,15 @@
 #![tactic(auto)]
 
 ghost use Rattle.std.specs.Prelude.{◌≡◌, ℕ};
-ghost use Rattle.levels.specs.Record.{lent_record};
 ghost use Rattle.rules.specs.Machine.{Machine};
 ghost use Rattle.rules.specs.Events.{event};
 ghost use Rattle.effect.specs.Effected.{Lends, Effected};
 
-use cpupri::record::{CPUS, LEVELS, WORDS};
-use deciding::read::{running, task_at};
-use effect::{Effect, done, quiet, refused};
-use plans::plan::Decision;
+use cpupri::record::Record;
+use deciding::read::{running, with_columns};
+use hinting::hint::Candidates;
 use queueing::requeue;
+use rules::answer::Refusal;
 
 // Kind 7: the slice of the task that runs is written, and it stays where it is or goes behind its equals.
 pub fn tick(
@@ -27,48 +26,36 @@ pub fn tick(
     rows: &mut [u16],
     counts: &[u16],
     flags: &[u8],
-    masks: &[u64; LEVELS],
-    tallies: &[u8; LEVELS],
-    words: &[u64; WORDS],
-    levels: &[u8; CPUS],
+    record: &Record,
     who: u32,
-) -> Effect
-    requires { let r = lent_record masks.now tallies.now words.now levels.now in
-        ((m : Machine) × (Lends m state.now policy.now prio.now cpu.now slice.old mask.now
-        rows.old counts.now flags.now online r × (n ≡ m.n) × (full ≡ m.full))) }
-    ensures { let r = lent_record masks.now tallies.now words.now levels.now in
-        ((m : Machine) (a b k : ℕ) → Lends m state.now policy.now prio.now cpu.now slice.old mask.now
-        rows.old counts.now flags.now online r → n ≡ m.n → full ≡ m.full →
+) -> Result<Candidates, Refusal>
+    requires { (m : Machine) × (Lends m state.now policy.now prio.now cpu.now slice.old mask.now
+        rows.old counts.now flags.now online «record».now × (n ≡ m.n) × (full ≡ m.full)) }
+    ensures { (m : Machine) (a b k : ℕ) → Lends m state.now policy.now prio.now cpu.now slice.old mask.now
+        rows.old counts.now flags.now online «record».now → n ≡ m.n → full ≡ m.full →
         Effected m (event 7 who a b k) result state.now policy.now prio.now cpu.now slice.new mask.now
-        rows.new counts.now flags.now online r) }
+        rows.new counts.now flags.now online «record».now }
 {
-    let at = running(n, rows, counts, who as usize) as usize;
-    let runner = task_at(state, policy, prio, cpu, slice, mask, at); // whose tick it is
-    match percpu::tick(n, online, full, at, runner, who) {
-        Decision::Refused(number) => refused(number),
-        Decision::Place(plan) => {
-            let becomes = plan.becomes;
-            slice[plan.task as usize] = becomes.slice;
-            if !plan.enters {
-                return quiet();
-            }
-            done(requeue(
-                state,
-                prio,
-                cpu,
-                rows,
-                counts,
-                flags,
-                masks,
-                tallies,
-                words,
-                levels,
-                plan.task,
-                plan.origin,
-            ))
-        }
-        _ => quiet(),
-    }
+    let first = running(n, rows, counts, who as usize);
+    let runner = with_columns(state, policy, prio, cpu, slice, mask, first); // whose tick it is
+    let Some(plan) = percpu::tick(n, online, full, runner, who)? else {
+        return Ok(Candidates::NOBODY);
+    };
+    slice[plan.task as usize] = plan.becomes.slice;
+    let Some(entry) = plan.enters else {
+        return Ok(Candidates::NOBODY);
+    };
+    Ok(requeue(
+        state,
+        prio,
+        cpu,
+        rows,
+        counts,
+        flags,
+        record,
+        plan.task,
+        entry.target,
+    ))
 }
 
 // Kind 8: the task that runs goes behind its equals.
@@ -84,39 +71,28 @@ pub fn yield_cpu(
     rows: &mut [u16],
     counts: &[u16],
     flags: &[u8],
-    masks: &[u64; LEVELS],
-    tallies: &[u8; LEVELS],
-    words: &[u64; WORDS],
-    levels: &[u8; CPUS],
+    record: &Record,
     who: u32,
-) -> Effect
-    requires { let r = lent_record masks.now tallies.now words.now levels.now in
-        ((m : Machine) × (Lends m state.now policy.now prio.now cpu.now slice.now mask.now
-        rows.old counts.now flags.now online r × (n ≡ m.n))) }
-    ensures { let r = lent_record masks.now tallies.now words.now levels.now in
-        ((m : Machine) (a b k : ℕ) → Lends m state.now policy.now prio.now cpu.now slice.now mask.now
-        rows.old counts.now flags.now online r → n ≡ m.n →
+) -> Result<Candidates, Refusal>
+    requires { (m : Machine) × (Lends m state.now policy.now prio.now cpu.now slice.now mask.now
+        rows.old counts.now flags.now online «record».now × (n ≡ m.n)) }
+    ensures { (m : Machine) (a b k : ℕ) → Lends m state.now policy.now prio.now cpu.now slice.now mask.now
+        rows.old counts.now flags.now online «record».now → n ≡ m.n →
         Effected m (event 8 who a b k) result state.now policy.now prio.now cpu.now slice.now mask.now
-        rows.new counts.now flags.now online r) }
+        rows.new counts.now flags.now online «record».now }
 {
-    let at = running(n, rows, counts, who as usize) as usize;
-    let runner = task_at(state, policy, prio, cpu, slice, mask, at);
-    match percpu::yield_cpu(n, online, at, runner, who) {
-        Decision::Refused(number) => refused(number),
-        Decision::Place(plan) => done(requeue(
-            state,
-            prio,
-            cpu,
-            rows,
-            counts,
-            flags,
-            masks,
-            tallies,
-            words,
-            levels,
-            plan.task,
-            plan.origin,
-        )),
-        _ => quiet(),
-    }
+    let first = running(n, rows, counts, who as usize);
+    let runner = with_columns(state, policy, prio, cpu, slice, mask, first);
+    let plan = percpu::yield_cpu(n, online, runner, who)?;
+    Ok(requeue(
+        state,
+        prio,
+        cpu,
+        rows,
+        counts,
+        flags,
+        record,
+        plan.task,
+        who as usize,
+    ))
 }

@@ -10,7 +10,7 @@ use lib.Bits.{bit_or}
 use lib.Dec.{eqb, ltb, leb}
 use lib.ListN.{length, get_or, set}
 use lib.Seq.{ext_get_or}
-use borrow.Author.Tests.{eqb-true, eqb-false, ltb-true, ltb-false, lt-ltb, le-ltb, leb-true, leb-false, le-leb, lt-leb}
+use borrow.Author.Tests.{eqb-true, eqb-false, ltb-true, ltb-false, lt-ltb, le-ltb, leb-true, leb-false}
 use Rattle.bits.specs.Bit.{bit, digit, put_bit, without_bit, tally}
 use Rattle.bits.proofs.Packed.{bit_packed, packed_set, packed_cong, packed_or, packed_none}
 use Rattle.bits.proofs.Word.{put_same}
@@ -98,30 +98,3 @@ under_risen levels cpu from to size hc was up l = go (ltb from l) (leb l to) ref
     go false b p q =
         let low : l ≤ from = ltb-false from l p in
         sym (put_same (ltb to l) (under_at levels l) cpu (held ∙ p ∙ sym (le-ltb to l (omega arith))))
-
--- level by level
-module _ (cpu from : ℕ) where
-  pub risen_not : (l word : ℕ) → risen cpu from from l word ≡ word
-  risen_not l word = go (ltb from l) (leb l from) refl refl
-    where
-      go : (a b : Bool) → ltb from l ≡ a → leb l from ≡ b → cond (a && b) (without_bit word cpu) word ≡ word
-      go true true p q = absurd (let up : from < l = ltb-true from l p in let down : l ≤ from = leb-true l from q in let no : ⊥ = omega arith in no)
-      go true false p q = refl
-      go false b p q = refl
-
-  pub risen_here : (to word : ℕ) → from ≤ to → without_bit (risen cpu from to (to + 1) word) cpu ≡ risen cpu from (to + 1) (to + 1) word
-  risen_here to word h =
-      ap (λ (b : Bool). without_bit (cond (ltb from (to + 1) && b) (without_bit word cpu) word) cpu) (lt-leb (to + 1) to (omega arith))
-      ∙ ap (λ (b : Bool). without_bit (cond b (without_bit word cpu) word) cpu) (and_false (ltb from (to + 1)))
-      ∙ sym (ap₂ (λ (a b : Bool). cond (a && b) (without_bit word cpu) word) (lt-ltb from (to + 1) (omega arith)) (le-leb (to + 1) (to + 1) (omega arith)))
-    where
-      and_false : (b : Bool) → (b && false) ≡ false
-      and_false true = refl
-      and_false false = refl
-
-  pub risen_other : (to l word : ℕ) → (l ≡ to + 1 → ⊥) → risen cpu from to l word ≡ risen cpu from (to + 1) l word
-  risen_other to l word n = ap (λ (b : Bool). cond (ltb from l && b) (without_bit word cpu) word) (go (leb l to) refl)
-    where
-      go : (b : Bool) → leb l to ≡ b → b ≡ leb l (to + 1)
-      go true e = sym (le-leb l (to + 1) (omega (arith, leb-true l to e)))
-      go false e = sym (lt-leb l (to + 1) (lt_of_le-ne (let above : to < l = leb-false l to e in omega arith) (λ q. n (sym q))))

@@ -13,10 +13,8 @@ pub fn fill(masks: &[u64; LEVELS], under: &mut [u64; LEVELS])
     requires { (length under.old ≡ level_count) × (get_or under.old 0 0 ≡ 0) }
     ensures { (levels : List ℕ) → masks.now ≡ masks_of levels → under.new ≡ under_of levels }
 {
-    let mut level = 1;
-    while level < LEVELS {
+    for level in 1..LEVELS {
         under[level] = under[level - 1] | masks[level - 1];
-        level += 1;
     }
 }
 
@@ -27,10 +25,7 @@ pub fn rise(under: &mut [u64; LEVELS], cpu: usize, from: u8, to: u8)
     ensures { (levels : List ℕ) → under.old ≡ under_of levels → length levels ≡ cpu_places → get_or levels cpu 0 ≡ from
         → under.new ≡ under_of (set levels cpu to) }
 {
-    let end = to as usize;
-    let mut level = from as usize;
-    while level < end {
-        level += 1;
-        under[level] = bits::clear_bit(under[level], cpu);
+    for word in &mut under[from as usize + 1..=to as usize] {
+        *word = bits::clear_bit(*word, cpu);
     }
 }

@@ -1,19 +1,17 @@
 // The CPUs on which a task waits.
-ghost use Rattle.std.specs.Prelude.{◌≡◌, suc, ◌+◌, ◌≤◌, ◌<◌, leb, length, take, drop};
-ghost use Rattle.rules.specs.Lists.{any};
-ghost use Rattle.ranking.specs.Row.{block};
+ghost use Rattle.std.specs.Prelude.{suc, ◌≤◌, ◌<◌, length};
 ghost use Rattle.waiting.specs.Waiting.{NextWaiting, NobodyWaits};
 
-use ranking::BLOCK;
+use ranking::{BLOCK, any_in_block};
 
-// The first CPU on which a task waits; n if there is none. CPU 0 is asked by itself, which takes fewer instructions where many tasks
+// The first CPU on which a task waits, if there is one. CPU 0 is asked by itself, which takes fewer instructions where many tasks
 // wait.
-pub fn first_waiting(counts: &[u16], n: usize) -> usize
+pub fn first_waiting(counts: &[u16], n: usize) -> Option<usize>
     requires { (0 < n) × (n ≤ length counts.now) }
     ensures { NextWaiting counts.now 0 n result }
 {
     if counts[0] >= 2 {
-        return 0;
+        return Some(0);
     }
     let from = first_block(counts, n);
     next_waiting(counts, from, n)
@@ -24,43 +22,28 @@ fn first_block(counts: &[u16], n: usize) -> usize
     requires { n ≤ length counts.now }
     ensures { (result ≤ n) × NobodyWaits counts.now 0 result }
 {
-    let mut next = 0;
-    while BLOCK <= n - next {
-        if any_waiting(counts, next) {
-            return next;
+    let blocks = n / BLOCK;
+    for block in 0..blocks {
+        if any_in_block(counts, block * BLOCK, |count| count >= 2) {
+            return block * BLOCK;
         }
-        next += BLOCK;
     }
-    next
+    blocks * BLOCK
 }
 
-// Whether a task waits on a CPU of the block that starts here. All its CPUs are looked at before it is decided, which the compiler makes
-// many at a time.
-fn any_waiting(counts: &[u16], from: usize) -> bool
-    requires { from + block ≤ length counts.now }
-    ensures { result ≡ any (leb 2) (take block (drop from counts.now)) }
-{
-    let mut found = false;
-    let mut i = 0;
-    while i < BLOCK {
-        found = found | (counts[from + i] >= 2);
-        i += 1;
-    }
-    found
-}
-
-// The first CPU on which a task waits, from the CPU `from` on; n if there is none.
-pub fn next_waiting(counts: &[u16], from: usize, n: usize) -> usize
+// The first CPU on which a task waits, from the CPU `from` on.
+pub fn next_waiting(counts: &[u16], from: usize, n: usize) -> Option<usize>
     requires { (from ≤ n) × (n ≤ length counts.now) }
     ensures { NextWaiting counts.now from n result }
 {
     let mut next = from;
+    // two at a step, by hand: a `for` over the pairs takes longer, up to half as long again where many of few CPUs have waiting tasks
     while 1 < n - next {
         if counts[next] >= 2 {
-            return next;
+            return Some(next);
         }
         if counts[next + 1] >= 2 {
-            return next + 1;
+            return Some(next + 1);
         }
         next += 2;
     }
@@ -68,15 +51,15 @@ pub fn next_waiting(counts: &[u16], from: usize, n: usize) -> usize
 }
 
 // The same where at most one CPU is left.
-fn last_waiting(counts: &[u16], at: usize, n: usize) -> usize
+fn last_waiting(counts: &[u16], at: usize, n: usize) -> Option<usize>
     requires { (at ≤ n) × (n ≤ suc at) × (n ≤ length counts.now) }
     ensures { NextWaiting counts.now at n result }
 {
     if n <= at {
-        return n;
+        return None;
     }
     if counts[at] >= 2 {
-        return at;
+        return Some(at);
     }
-    n
+    None
 }

@@ -1,5 +1,5 @@
 // The waiting tasks of one row.
-ghost use Rattle.std.specs.Prelude.{◌≡◌, suc, ◌-◌, ◌≤◌, take};
+ghost use Rattle.std.specs.Prelude.{◌≡◌, MatchOption, suc, ◌-◌, ◌≤◌, ◌<◌, length};
 ghost use mathlib.Core.List.{tail};
 ghost use Rattle.cpupri.specs.Level.{level_of};
 ghost use Rattle.rules.specs.Machine.{highest_priority};
@@ -8,46 +8,50 @@ ghost use Rattle.waiting.specs.Wanted.{Asked, passing, wanted, least as least_of
 
 use cpupri::level::Level;
 use cpupri::record::LEVELS;
-use runqueue::row::NOTHING;
 
-// Who is looked for among the waiting tasks.
+// Who is looked for among the waiting tasks. (No closure: what a test means, asks and passes is said once for each, in specs/Wanted.antt.)
 #[derive(Clone, Copy)]
 pub enum Test {
     // who has an allowed CPU below its level, by the CPUs below each level; no CPU is below the level `lowest`
-    Movable { lowest: u8 },
+    Movable {
+        lowest: u8,
+    },
     // who may use the CPU `cpu`, whose level `level` is below its own; and the task `new`
-    Drawn { cpu: usize, level: u8, new: u16 },
+    Drawn {
+        cpu: usize,
+        level: u8,
+        new: Option<u16>,
+    },
 }
 
-// The place of the first waiting task that is above the priority `floor` and passes the test, or `count` if
-// there is none. Priorities fall along a row, so the walk ends at the first task that is not above the floor.
+// The place of the first waiting task of a row that is above the priority `floor` and passes the test. Priorities fall along a
+// row, so the walk ends at the first task that is not above the floor.
 pub fn scan(
     test: Test,
     row: &[u16],
     prio: &[u8],
     mask: &[u64],
     under: &[u64; LEVELS],
-    count: usize,
     floor: u8,
-) -> usize
+) -> Option<usize>
     requires asked { Asked test }
-    requires searchable { Searchable prio.now mask.now row.now count }
-    ensures { result ≡ suc (ahead (wanted test under.now prio.now mask.now floor) (tail (take count row.now))) }
+    requires searchable { Searchable prio.now mask.now row.now }
+    ensures { let end = suc (ahead (wanted test under.now prio.now mask.now floor) (tail row.now)) in
+        MatchOption result (length row.now ≡ end) (λ at. (at < length row.now) × (at ≡ end)) }
 {
-    let mut at = 1;
-    while at < count {
+    let count = row.len();
+    for at in 1..count {
         let task = row[at];
         let place = task as usize;
         let priority = prio[place];
         if priority <= floor {
-            return count;
+            return None;
         }
         if passes(test, under, task, priority, mask[place]) {
-            return at;
+            return Some(at);
         }
-        at += 1;
     }
-    count
+    None
 }
 
 // Whether a task of this priority and mask passes the test.
@@ -59,7 +63,7 @@ fn passes(test: Test, under: &[u64; LEVELS], task: u16, priority: u8, mask: u64)
     let own = Level::of_priority(priority).number;
     match test {
         Test::Movable { lowest: _ } => under[own as usize] & mask != 0,
-        Test::Drawn { cpu, level, new } => (task == new)
+        Test::Drawn { cpu, level, new } => (new == Some(task))
             | (bits::test_bit(mask, cpu) & (level < own)),
     }
 }
@@ -70,12 +74,16 @@ pub fn least(test: Test) -> u8
 {
     match test {
         Test::Movable { lowest } => priority_at(lowest),
-        Test::Drawn { cpu: _, level, new } => {
-            if new == NOTHING {
-                return priority_at(level);
-            }
-            0
-        }
+        Test::Drawn {
+            cpu: _,
+            level,
+            new: None,
+        } => priority_at(level),
+        Test::Drawn {
+            cpu: _,
+            level: _,
+            new: Some(_),
+        } => 0,
     }
 }
 

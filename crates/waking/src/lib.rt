@@ -2,16 +2,15 @@
 #![tactic(auto)]
 
 ghost use Rattle.std.specs.Prelude.{ℕ};
-ghost use Rattle.levels.specs.Record.{lent_record};
 ghost use Rattle.rules.specs.Machine.{Machine};
 ghost use Rattle.rules.specs.Events.{event};
 ghost use Rattle.effect.specs.Effected.{Lends, Effected};
 
-use cpupri::record::{CPUS, LEVELS, WORDS};
+use cpupri::record::Record;
 use deciding::read::task_at;
-use effect::{Effect, done, quiet, refused};
-use plans::plan::Decision;
+use hinting::hint::Candidates;
 use queueing::{enter, leave};
+use rules::answer::Refusal;
 
 // Kind 3: its state is written and it enters a row.
 pub fn wake(
@@ -25,44 +24,29 @@ pub fn wake(
     rows: &mut [u16],
     counts: &mut [u16],
     flags: &[u8],
-    masks: &mut [u64; LEVELS],
-    tallies: &mut [u8; LEVELS],
-    words: &mut [u64; WORDS],
-    levels: &mut [u8; CPUS],
+    record: &mut Record,
     who: u32,
-) -> Effect
-    requires { let r = lent_record masks.old tallies.old words.old levels.old in
-        ((m : Machine) × Lends m state.old policy.now prio.now cpu.old slice.now mask.now rows.old counts.old flags.now online r) }
-    ensures { let r = lent_record masks.old tallies.old words.old levels.old in
-        let q = lent_record masks.new tallies.new words.new levels.new in
-        ((m : Machine) (a b k : ℕ) → Lends m state.old policy.now prio.now cpu.old slice.now mask.now
-        rows.old counts.old flags.now online r →
+) -> Result<Candidates, Refusal>
+    requires { (m : Machine) × Lends m state.old policy.now prio.now cpu.old slice.now mask.now rows.old counts.old flags.now online «record».old }
+    ensures { (m : Machine) (a b k : ℕ) → Lends m state.old policy.now prio.now cpu.old slice.now mask.now
+        rows.old counts.old flags.now online «record».old →
         Effected m (event 3 who a b k) result state.new policy.now prio.now cpu.new slice.now mask.now
-        rows.new counts.new flags.now online q) }
+        rows.new counts.new flags.now online «record».new }
 {
     let named = task_at(state, policy, prio, cpu, slice, mask, who as usize);
-    match lifecycle::wake(online, named, who) {
-        Decision::Refused(number) => refused(number),
-        Decision::Place(plan) => {
-            let becomes = plan.becomes;
-            state[plan.task as usize] = becomes.state;
-            done(enter(
-                state,
-                prio,
-                cpu,
-                rows,
-                counts,
-                flags,
-                masks,
-                tallies,
-                words,
-                levels,
-                plan.task,
-                plan.target,
-            ))
-        }
-        _ => quiet(),
-    }
+    let plan = lifecycle::wake(online, named, who)?;
+    state[plan.task as usize] = plan.becomes.state;
+    Ok(enter(
+        state,
+        prio,
+        cpu,
+        rows,
+        counts,
+        flags,
+        record,
+        plan.task,
+        plan.enters.unwrap().target,
+    ))
 }
 
 // Kind 4: its state is written and it leaves its row.
@@ -76,43 +60,28 @@ pub fn sleep(
     rows: &mut [u16],
     counts: &mut [u16],
     flags: &[u8],
-    masks: &mut [u64; LEVELS],
-    tallies: &mut [u8; LEVELS],
-    words: &mut [u64; WORDS],
-    levels: &mut [u8; CPUS],
+    record: &mut Record,
     who: u32,
-) -> Effect
-    requires { let r = lent_record masks.old tallies.old words.old levels.old in
-        ((m : Machine) × Lends m state.old policy.now prio.now cpu.now slice.now mask.now
-        rows.old counts.old flags.now m.online r) }
-    ensures { let r = lent_record masks.old tallies.old words.old levels.old in
-        let q = lent_record masks.new tallies.new words.new levels.new in
-        ((m : Machine) (a b k : ℕ) → Lends m state.old policy.now prio.now cpu.now slice.now mask.now
-        rows.old counts.old flags.now m.online r →
+) -> Result<Candidates, Refusal>
+    requires { (m : Machine) × Lends m state.old policy.now prio.now cpu.now slice.now mask.now
+        rows.old counts.old flags.now m.online «record».old }
+    ensures { (m : Machine) (a b k : ℕ) → Lends m state.old policy.now prio.now cpu.now slice.now mask.now
+        rows.old counts.old flags.now m.online «record».old →
         Effected m (event 4 who a b k) result state.new policy.now prio.now cpu.now slice.now mask.now
-        rows.new counts.new flags.now m.online q) }
+        rows.new counts.new flags.now m.online «record».new }
 {
     let named = task_at(state, policy, prio, cpu, slice, mask, who as usize);
-    match lifecycle::sleep(named, who) {
-        Decision::Refused(number) => refused(number),
-        Decision::Place(plan) => {
-            let becomes = plan.becomes;
-            state[plan.task as usize] = becomes.state;
-            done(leave(
-                state,
-                prio,
-                cpu,
-                rows,
-                counts,
-                flags,
-                masks,
-                tallies,
-                words,
-                levels,
-                plan.task,
-                plan.origin,
-            ))
-        }
-        _ => quiet(),
-    }
+    let plan = lifecycle::sleep(named, who)?;
+    state[plan.task as usize] = plan.becomes.state;
+    Ok(leave(
+        state,
+        prio,
+        cpu,
+        rows,
+        counts,
+        flags,
+        record,
+        plan.task,
+        named.cpu as usize,
+    ))
 }

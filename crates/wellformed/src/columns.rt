@@ -28,15 +28,13 @@ pub fn columns_fit(
     requires cpu_len { (length cpu.now ≡ task_places) × (length slice.now ≡ task_places) × (length mask.now ≡ task_places) }
     ensures { Says result (Columns n full online state.now policy.now prio.now cpu.now slice.now mask.now marks.now) }
 {
-    let mut t = 0;
-    while t < PLACES {
+    for t in 0..PLACES {
         let placed = marks::has(marks, t);
         if !task_fits(
             placed, n, full, online, state[t], policy[t], prio[t], cpu[t], slice[t], mask[t],
         ) {
             return false;
         }
-        t += 1;
     }
     true
 }

@@ -1,7 +1,6 @@
 // The pass over the rows: of each CPU the places in use, the unused ones, the flag and the level.
-ghost use Rattle.std.specs.Prelude.{◌≡◌, true, ℕ, ◌*◌, ◌≤◌, length, cond, ◌<◌};
+ghost use Rattle.std.specs.Prelude.{◌≡◌, ℕ, ◌*◌, ◌≤◌, length, cond, ◌<◌, IfSome, MatchOption};
 ghost use Rattle.rules.specs.Machine.{task_places, cpu_places};
-ghost use Rattle.rowcheck.specs.Says.{Says};
 ghost use Rattle.rowcheck.specs.Placed.{mark};
 ghost use Rattle.bits.specs.Bit.{bit};
 ghost use Rattle.rules.specs.Machine.{invalid};
@@ -13,14 +12,7 @@ use rowcheck::marks::WORDS;
 use rowcheck::row::row_fits;
 use runqueue::row::PLACES;
 
-// Whether the rows are right and, if so, the set of the tasks that stand in them.
-#[derive(Clone, Copy)]
-pub struct Placed {
-    pub fit: bool,
-    pub marks: [u64; WORDS],
-}
-
-// Each row in turn, with its CPU's flag and level.
+// Each row in turn, with its CPU's flag and level: the set of the tasks that stand in rows, or None if the rows are not right.
 pub fn rows_fit(
     n: usize,
     state: &[u8],
@@ -30,28 +22,27 @@ pub fn rows_fit(
     counts: &[u16],
     flags: &[u8],
     online: u64,
-    levels: [u8; CPUS],
-) -> Placed
+    levels: &[u8; CPUS],
+) -> Option<[u64; WORDS]>
     requires n_le_cpu_places { n ≤ cpu_places }
     requires state_len { (length state.now ≡ task_places) × (length prio.now ≡ task_places) × (length cpu.now ≡ task_places) }
     requires rows_len { (length rows.now ≡ task_places * n) × (length counts.now ≡ n) × (length flags.now ≡ n) }
-    ensures says { Says result.fit (Rows n state.now prio.now cpu.now rows.now counts.now flags.now online levels) }
-    ensures u_value { result.fit ≡ true → (u : ℕ) → mark result.marks u ≡ standings counts.now rows.now n u }
+    ensures right { let fit = Rows n state.now prio.now cpu.now rows.now counts.now flags.now online levels.now in
+        MatchOption result (fit → ⊥) (λ marks. fit) }
+    ensures placed { IfSome result (λ marks. (u : ℕ) → mark marks u ≡ standings counts.now rows.now n u) }
 {
     let mut marks = [0; WORDS];
-    let mut c = 0;
-    while c < n {
+    for c in 0..n {
         let start = c * PLACES;
         let row = &rows[start..start + PLACES];
         let idle = idle_level(online, c, flags[c]);
         if !row_fits(
             c, row, counts[c], flags[c], idle, levels[c], state, prio, cpu, &mut marks,
         ) {
-            return Placed { fit: false, marks };
+            return None;
         }
-        c += 1;
     }
-    Placed { fit: true, marks }
+    Some(marks)
 }
 
 // The level of a CPU without a task: its flag, or INVALID if it is offline.

@@ -2,6 +2,5 @@
 pub mod Same
 pub mod From
 pub mod Compared
-pub mod Copying
 pub mod Numbers
 pub mod Blocks

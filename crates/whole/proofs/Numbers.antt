@@ -32,9 +32,6 @@ number_eight xs at =
     let high : number xs (at + 4) 4 ≡ number xs (suc (suc (suc (suc at)))) 4 = ap (λ (i : ℕ). number xs i 4) four in
     omega (arith, high)
 
-pub number_lt : (xs : List ℕ) → Bytes xs → (at : ℕ) → number xs at 4 < 4294967296
-number_lt xs b at = omega (arith, number_four xs at, b at, b (at + 1), b (at + 2), b (at + 3))
-
 module _ (xs ys : List ℕ) (bx : Bytes xs) (by : Bytes ys) where
   pub number_inj : (k a b : ℕ) → number xs a k ≡ number ys b k → (i : ℕ) → i < k → get_or xs (a + i) 0 ≡ get_or ys (b + i) 0
   unfolding number

@@ -10,10 +10,8 @@ pub fn same_u64(a: &[u64], b: &[u64]) -> bool
     ensures { result ≡ same a.now b.now }
 {
     let mut word = 0;
-    let mut i = 0;
-    while i < b.len() {
-        word = word | (a[i] ^ b[i]);
-        i += 1;
+    for (x, y) in a.iter().zip(b) {
+        word |= x ^ y;
     }
     word == 0
 }
@@ -23,10 +21,8 @@ pub fn none_u64(a: &[u64]) -> bool
     ensures { result ≡ same a.now (replicate (length a.now) 0) }
 {
     let mut word = 0;
-    let mut i = 0;
-    while i < a.len() {
-        word = word | a[i];
-        i += 1;
+    for x in a {
+        word |= x;
     }
     word == 0
 }
@@ -36,12 +32,9 @@ pub fn each_invalid(a: &[u8], start: usize) -> bool
     requires { start ≤ length a.now }
     ensures { result ≡ same a.now (invalid_from start a.now) }
 {
-    let invalid = Level::INVALID;
     let mut byte = 0;
-    let mut i = start;
-    while i < a.len() {
-        byte = byte | (a[i] ^ invalid.number);
-        i += 1;
+    for level in &a[start..] {
+        byte |= level ^ Level::INVALID.number;
     }
     byte == 0
 }

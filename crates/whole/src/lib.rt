@@ -1,6 +1,5 @@
-// Tables looked at whole: copied, and compared many places at a time.
+// Tables looked at whole: compared many places at a time.
 #![tactic(auto)]
 
 pub mod compare;
-pub mod copy;
 pub mod eights;

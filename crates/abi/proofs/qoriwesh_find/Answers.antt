@@ -2,7 +2,10 @@
 -- Assumes nothing.
 use mathlib.Core.Path.{◌≡◌, sym, ◌∙◌}
 use mathlib.Core.Bool.{true}
-use lib.ListN.{length}
+use borrow.Author.Rules.{rules}
+use lib.ListN.{length, get_or}
+use mir.Syntax.{w64}
+use mir.Val.{Fits}
 use Rattle.levels.specs.Record.{lent_record}
 use Rattle.levels.specs.declared.record.Record.{Record}
 use Rattle.lentrecord.specs.Lent.{lent_fits}
@@ -26,20 +29,20 @@ returns-then-not-lengths_fit c =
     let f = c.lengths_fit in
     c.tell.ensures ∙ found_unfit x.n (given (goal.at.returns-then-not-lengths_fit c).Start) x.level x.mask (sym f.ensures ∙ c.if-not-lengths_fit.true)
 
-pub find_in-lowest-requires : goal.find_in-lowest-requires
-find_in-lowest-requires c =
-    let r = given (goal.at.find_in-lowest-requires c).Start in
-    let long = sized (length r.masks) (length r.counts) (length r.words) (length r.levels) (fits (goal.at.find_in-lowest-requires c).Else-not-lengths_fit) in
+pub find_in-found-requires : goal.find_in-found-requires
+find_in-found-requires c =
+    let r = given (goal.at.find_in-found-requires c).Start in
+    let long = sized (length r.masks) (length r.counts) (length r.words) (length r.levels) (fits (goal.at.find_in-found-requires c).Else-not-lengths_fit) in
     record {
       masks = long.masks;
       counts = long.counts;
       words = long.words;
       levels = long.levels;
-      mask = λ l. (c.shared_slice_known-1.given l).fits;
-      word = λ i. (c.shared_slice_known-3-1.given i).fits;
+      mask = λ l. let f : Fits w64 (get_or r.masks l 0) = search rules in f.fits;
+      word = λ i. let f : Fits w64 (get_or r.words i 0) = search rules in f.fits;
     }
 
 pub returns : goal.returns
 returns c =
     let x = c.args in
-    c.tell-2.ensures ∙ found_fit x.n (given (goal.at.returns c).Start) x.level x.mask c.find_in-lowest.result (fits (goal.at.returns c).Else-not-lengths_fit) c.find_in-lowest.ensures
+    c.tell-2.ensures ∙ found_fit x.n (given (goal.at.returns c).Start) x.level x.mask c.find_in-found.result (fits (goal.at.returns c).Else-not-lengths_fit) c.find_in-found.ensures

@@ -1,11 +1,14 @@
 -- `abifresh::qoriwesh_make_fresh` meets its contract.
 -- Assumes nothing.
-use mathlib.Core.Path.{refl, sym, ◌∙◌}
+use mathlib.Core.Path.{◌≡◌, refl, sym, ◌∙◌}
+use Prim.Native.Nat.{ℕ}
 use Rattle.levels.specs.Record.{lent_record}
 use Rattle.levels.specs.declared.record.Record.{Record}
 use Rattle.lenttables.specs.Lent.{lent}
+use Rattle.rules.specs.Entry.{result_of, made}
 use Rattle.rules.specs.Tables.{Tables}
 use Rattle.lentrecord.proofs.Entries.{made_unfit, made_fit}
+use Rattle.lentrecord.specs.Entry.{lent_made}
 use Rattle.abifresh.proofs.qoriwesh_make_fresh.Goals.{After-write, Start}
 use Rattle.abifresh.proofs.qoriwesh_make_fresh.Goals as goal
 
@@ -26,30 +29,31 @@ module _ (c : After-write) where
 
   abbrev left_tables : Tables
   left_tables =
-      let o = c.make_fresh-made.new in
+      let o = c.make_fresh_lent-made.new in
       lent c.args.full o.state o.policy o.prio o.cpu o.slice o.mask o.rows o.counts o.flags o.online o.log
+
+  back : (a : ℕ) → let s = (goal.at.After-write c).Start in
+      result_of a 0 c.make_fresh_lent-made.new.«record» left_tables ≡ made c.args.n c.load.new.«record» (tables s)
+      → result_of a 0 left left_tables ≡ lent_made c.args.n (given s) (tables s)
+  back a is =
+      let s = (goal.at.After-write c).Start in
+      let k = c in
+      let f = k.lengths_fit in
+      made_fit c.args.n a (given s) c.load.new.«record» c.make_fresh_lent-made.new.«record» left (tables s) left_tables
+      (sym f.ensures ∙ k.if-not-lengths_fit.false) c.load.ensures is c.write.ensures
 
 pub returns-then-not-lengths_fit : goal.returns-then-not-lengths_fit
 returns-then-not-lengths_fit c =
-    let f = c.lengths_fit in record {
-      as_ruled = made_unfit c.args.n (given (goal.at.returns-then-not-lengths_fit c).Start) (tables (goal.at.returns-then-not-lengths_fit c).Start) (sym f.ensures ∙ c.if-not-lengths_fit.true);
+    let s = (goal.at.returns-then-not-lengths_fit c).Start in
+    let f = c.lengths_fit in
+    rw c.number.ensures
+    record {
+      as_ruled = made_unfit c.args.n (given s) (tables s) (sym f.ensures ∙ c.if-not-lengths_fit.true);
       slice_handed_back = refl;
     }
 
-pub read-given-requires : goal.read-given-requires
-read-given-requires c = let f = c.lengths_fit in sym f.ensures ∙ c.if-not-lengths_fit.false
+pub returns-in-Ok-clause-as_ruled : goal.returns-in-Ok-clause-as_ruled
+returns-in-Ok-clause-as_ruled c = back (goal.at.returns-in-Ok-clause-as_ruled c).After-write 0 c.in-Ok.ensures.as_ruled
 
-pub write-requires : goal.write-requires
-write-requires c = let f = c.lengths_fit in sym f.ensures ∙ c.if-not-lengths_fit.false
-
-pub returns : goal.returns
-returns c =
-    let s = (goal.at.returns c).Start in
-    let f = c.lengths_fit in
-    let g = c.read-given in
-    let o = c.make_fresh-made in
-    let w = (goal.at.returns c).After-write in record {
-      as_ruled = made_fit c.args.n o.result.answer (given s) g.result o.result.«record» (left w) (tables s) (left_tables w)
-          (sym f.ensures ∙ c.if-not-lengths_fit.false) g.ensures o.ensures.fact_1 c.write.ensures;
-      slice_handed_back = o.ensures.fact_2;
-    }
+pub returns-in-Err-clause-as_ruled : goal.returns-in-Err-clause-as_ruled
+returns-in-Err-clause-as_ruled c = rw c.number-in-Err.ensures (back (goal.at.returns-in-Err-clause-as_ruled c).After-write _ c.in-Err.ensures.as_ruled)

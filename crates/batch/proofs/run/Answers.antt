@@ -1,12 +1,12 @@
 -- `batch::run` meets its contract: each turn of the loop is one event.
 -- Assumes nothing.
-use Rattle.std.proofs.Common.{refl}
+use native.Mathlib.Omega.{arith}
 use Rattle.batch.proofs.Turn.{turn, ends}
 use Rattle.batch.proofs.run.Goals as goal
 
-pub loop-i-preserved : goal.loop-i-preserved
-loop-i-preserved c =
-    (refl, turn c.args.events.now c.args.n _ _ _ c.loop-i.i c.loop-i-test.true c.step-u.ensures c.loop-i.invariant.1)
+pub loop-event-preserved : goal.loop-event-preserved
+loop-event-preserved c =
+    turn c.args.events.now c.args.n _ _ _ c.loop-event.event-index (omega arith) c.play-course.ensures c.loop-event.invariant
 
 pub returns : goal.returns
-returns c = ends c.args.events.now c.args.n _ _ c.loop-i.i c.loop-i-test.false c.loop-i.invariant.1
+returns c = ends c.args.events.now c.args.n _ _ c.loop-event.event-index (omega arith) c.loop-event.invariant

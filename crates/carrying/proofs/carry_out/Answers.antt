@@ -30,7 +30,7 @@ pub returns-in-Flag : goal.returns-in-Flag
 returns-in-Flag c =
     λ m l.
     let is = c.in-Flag.is in
-    flag_set l is c.set_flag.ensures.fact_1 (c.set_flag.ensures.fact_2 m (flagging l is))
+    flag_set l is c.set_flag.ensures.flags_set (c.set_flag.ensures.record_follows m (flagging l is))
 
 pub returns-in-Offline : goal.returns-in-Offline
 returns-in-Offline c =
@@ -42,10 +42,7 @@ pub returns-in-Online : goal.returns-in-Online
 returns-in-Online c =
     λ m l.
     let is = c.in-Online.is in
-    cpu_back l is c.bring_online.ensures.fact_1 (c.bring_online.ensures.fact_2 m (coming l is))
-
-pub returns-in-Refused : goal.returns-in-Refused
-returns-in-Refused c = λ m l. untouched l (ap (λ (d : Decision). did d m) c.in-Refused.is)
+    cpu_back l is c.bring_online.ensures.online_set (c.bring_online.ensures.record_follows m (coming l is))
 
 pub returns-in-Nothing : goal.returns-in-Nothing
 returns-in-Nothing c = λ m l. untouched l (ap (λ (d : Decision). did d m) c.in-Nothing.is)

@@ -4,7 +4,6 @@ use mathlib.Core.Path.{◌≡◌, refl, sym, ap, ap₂, ◌∙◌}
 use mathlib.Core.Bool.{Bool, true, false, ◌&&◌}
 use Prim.Native.Nat.{ℕ}
 use mathlib.Core.Logic.{inl, inr}
-use native.Mathlib.Nat.{suc-ne-zero}
 use native.Mathlib.Omega.{arith}
 use lib.Bits.{bit_and}
 use lib.Dec.{eqb}
@@ -36,30 +35,27 @@ module _ (c : Else-named-ne-RUNNABLE) where
 
 pub returns-then-who-ge-PLACES : goal.returns-then-who-ge-PLACES
 returns-then-who-ge-PLACES c = record {
-  fact_1 = λ m kind a b n on l. (fails_here _ _ _ (le-leb task_places c.args.who c.if-who-ge-PLACES.true), suc-ne-zero 3);
-  fact_2 = tt;
+  decided = λ m kind a b n on l. fails_here _ _ _ (le-leb task_places c.args.who c.if-who-ge-PLACES.true);
+  shaped = tt;
 }
 
 pub returns-then-named-eq-FREE : goal.returns-then-named-eq-FREE
 returns-then-named-eq-FREE c = record {
-  fact_1 = λ m kind a b n on l.
-      (passes_here _ _ _ 5 (lt-leb task_places c.args.who c.if-who-ge-PLACES.false) (fails_here _ _ _ (is_in l free c.if-named-eq-FREE.true)), suc-ne-zero 4);
-  fact_2 = tt;
+  decided = λ m kind a b n on l.
+      passes_here _ _ _ 5 (lt-leb task_places c.args.who c.if-who-ge-PLACES.false) (fails_here _ _ _ (is_in l free c.if-named-eq-FREE.true));
+  shaped = tt;
 }
 
 pub returns-then-not-fits : goal.returns-then-not-fits
 returns-then-not-fits c = record {
-  fact_1 = λ m kind a b n on l. (
-    passes_here _ _ _ 8 (lt-leb task_places c.args.who c.if-who-ge-PLACES.false)
-        (passes_here _ _ _ 8 (not_in l free c.if-named-eq-FREE.false) (fails_here _ _ _ (tested_mask c.args.k n c.mask_fits-fits.ensures (ap not c.if-not-fits.true)))),
-    suc-ne-zero 7,
-  );
-  fact_2 = tt;
+  decided = λ m kind a b n on l. passes_here _ _ _ 8 (lt-leb task_places c.args.who c.if-who-ge-PLACES.false)
+      (passes_here _ _ _ 8 (not_in l free c.if-named-eq-FREE.false) (fails_here _ _ _ (tested_mask c.args.k n c.mask_fits-fits.ensures (ap not c.if-not-fits.true))));
+  shaped = tt;
 }
 
 pub returns-then-named-ne-RUNNABLE : goal.returns-then-named-ne-RUNNABLE
 returns-then-named-ne-RUNNABLE c = record {
-  fact_1 = λ m kind a b n on l.
+  decided = λ m kind a b n on l.
       let t = c.args.who in
       let fits = tested_mask c.args.k n c.mask_fits-fits.ensures (ap not c.if-not-fits.false) in (
         passes_here _ _ _ 0 (lt-leb task_places t c.if-who-ge-PLACES.false)
@@ -67,19 +63,16 @@ returns-then-named-ne-RUNNABLE c = record {
             (passes_here _ _ _ 0 fits (passes_here _ _ _ 0 (ap (λ (b : Bool). b && stranded m c.args.k) (not_in l runnable c.if-named-ne-RUNNABLE.true)) none_left))),
         replaced (c.rewrite.ensures ∙ ap (rewrite t) (ap (with_mask c.args.k) l.columns)) (affinity_idle l c.if-who-ge-PLACES.false c.args.k c.if-named-ne-RUNNABLE.true),
       );
-  fact_2 = inl c.rewrite.ensures;
+  shaped = inl c.rewrite.ensures;
 }
 
 pub returns-then-up-eq0 : goal.returns-then-up-eq0
 returns-then-up-eq0 c = record {
-  fact_1 = λ m kind a b n on l. (
-    passes_here _ _ _ 10 (lt-leb task_places c.args.who c.if-who-ge-PLACES.false)
-        (passes_here _ _ _ 10 (not_in l free c.if-named-eq-FREE.false)
-        (passes_here _ _ _ 10 (tested_mask c.args.k n c.mask_fits-fits.ensures (ap not c.if-not-fits.false))
-        (fails_here _ _ _ (may (goal.at.returns-then-up-eq0 c).Else-named-ne-RUNNABLE m l true (tested_up m {k = c.args.k} refl on c.if-up-eq0.true))))),
-    suc-ne-zero 9,
-  );
-  fact_2 = tt;
+  decided = λ m kind a b n on l. passes_here _ _ _ 10 (lt-leb task_places c.args.who c.if-who-ge-PLACES.false)
+      (passes_here _ _ _ 10 (not_in l free c.if-named-eq-FREE.false)
+      (passes_here _ _ _ 10 (tested_mask c.args.k n c.mask_fits-fits.ensures (ap not c.if-not-fits.false))
+      (fails_here _ _ _ (may (goal.at.returns-then-up-eq0 c).Else-named-ne-RUNNABLE m l true (tested_up m {k = c.args.k} refl on c.if-up-eq0.true)))));
+  shaped = tt;
 }
 
 pub test_bit-requires : goal.test_bit-requires
@@ -90,7 +83,7 @@ test_bit-requires c =
 
 pub returns-then-test_bit : goal.returns-then-test_bit
 returns-then-test_bit c = record {
-  fact_1 = λ m kind a b n on l.
+  decided = λ m kind a b n on l.
       let t = c.args.who in
       let fits = tested_mask c.args.k n c.mask_fits-fits.ensures (ap not c.if-not-fits.false) in
       let some = tested_some m {k = c.args.k} refl on c.if-up-eq0.false in
@@ -100,12 +93,12 @@ returns-then-test_bit c = record {
         replaced (c.rewrite-then-test_bit.ensures ∙ ap (rewrite t) (ap (with_mask c.args.k) l.columns))
             (affinity_same l c.if-who-ge-PLACES.false c.args.k c.if-named-ne-RUNNABLE.false still),
       );
-  fact_2 = inl c.rewrite-then-test_bit.ensures;
+  shaped = inl c.rewrite-then-test_bit.ensures;
 }
 
 pub returns : goal.returns
 returns c = record {
-  fact_1 = λ m kind a b n on l.
+  decided = λ m kind a b n on l.
       let t = c.args.who in
       let j = c.args.k in
       let fits = tested_mask j n c.mask_fits-fits.ensures (ap not c.if-not-fits.false) in
@@ -120,5 +113,5 @@ returns c = record {
             ∙ ap (λ (σ : Task). shift t σ.cpu (with_mask j σ) (lowest_allowed m j)) l.columns)
             (affinity_moved l c.if-who-ge-PLACES.false j c.if-named-ne-RUNNABLE.false gone good.1 some),
       );
-  fact_2 = inr (_, c.shift.ensures);
+  shaped = inr (_, c.shift.ensures);
 }

@@ -3,19 +3,21 @@
 use mathlib.Core.Path.{◌≡◌, refl, sym, ap, ◌∙◌, subst}
 use Prim.Native.Nat.{ℕ}
 use native.Mathlib.Omega.{arith}
-use borrow.Author.Tests.{not-true, not-false}
-use Rattle.cpupri.specs.Record.{lent_record}
+use lib.ListN.{set}
+use Rattle.std.specs.Prelude.{Option, None, Some, Result, Ok, Err, IfSome}
 use Rattle.rules.specs.Machine.{Machine, Task, task_of}
-use Rattle.rules.specs.Events.{event, set_priority}
-use Rattle.rules.specs.Plan.{with_prio}
-use Rattle.plans.specs.Decided.{as_task, as_plan, Shaped, Reorders}
+use Rattle.rules.specs.Events.{event, effect, set_priority}
+use Rattle.rules.specs.Plan.{Plan, rewrite, reorder, with_prio}
+use Rattle.rules.specs.Refusals.{refusal}
+use Rattle.rules.specs.declared.answer.Refusal.{Refusal}
+use Rattle.plans.specs.Decided.{as_task, as_plan, PlannedOrNot, PlannedOrNotAs, PlacesOrNot, Reorders}
+use Rattle.plans.specs.declared.plan.Entry.{Entry}
 use Rattle.plans.specs.declared.plan.Plan.{Plan as Written}
-use Rattle.plans.specs.declared.plan.Decision.TheVariants.{Place}
-use Rattle.deciding.specs.Subject.{Decides}
-use Rattle.deciding.proofs.Deciding.{by_kind_lem}
+use Rattle.deciding.proofs.Deciding.{judged_by_kind}
+use Rattle.queueing.specs.Moved.{Moving}
 use Rattle.effect.specs.Effected.{Lends}
-use Rattle.effect.proofs.Effects.{only_nothing, place_task, unchanged, written, sized, columns_are, named_is, refused_is, nothing_is, moving, placed_is, stays_there, takes_place, reorders_task}
-use Rattle.changing.proofs.set_priority.Goals.{After-set_priority, Start}
+use Rattle.effect.proofs.Effects.{Plans, place_task, unchanged, written, sized, columns_are, named_is, passed_on, nothing_is, moving, placed_is, stays_there, takes_place, reorders_task}
+use Rattle.changing.proofs.set_priority.Goals.{Start, In-Some}
 use Rattle.changing.proofs.set_priority.Goals as goal
 
 -- ---- what was lent, and what was decided
@@ -25,36 +27,81 @@ module _ (c : Start) where
   Lent m =
       let x = c.args in
       Lends m x.state.now x.policy.now x.prio.now x.cpu.now x.slice.now x.mask.now x.rows.now x.counts.now x.flags.now m.online
-      (lent_record x.masks.now x.tallies.now x.words.now x.levels.now)
+      x.«record».now
 
-module _ (c : After-set_priority) where
-  right : (m : Machine) (a j : ℕ) → Lent (goal.at.After-set_priority c).Start m → Decides m (event 5 c.args.who a c.args.b j) c.set_priority.result
-  right m a j l =
-      let v = c in
-      by_kind_lem m (event 5 v.args.who a v.args.b j) set_priority _ refl (v.set_priority.ensures.fact_1 m 5 a j (named_is l v.args.who v.task_at-named.ensures))
+  judged : (m : Machine) (a k : ℕ) (r : Result (Option Written) Refusal) → let e = event 5 c.args.who a c.args.b k in
+      PlannedOrNotAs set_priority m e r → PlannedOrNot (refusal m e) (effect e m) m r
+  judged m a k r h = judged_by_kind m (event 5 c.args.who a c.args.b k) (λ done o. PlacesOrNot done m o) set_priority r refl h
 
 -- ---- the plan
 
-module _ (c : After-set_priority) (q : Written) (is : c.set_priority.result ≡ Place q) where
-  placed : (m : Machine) (a j : ℕ) → Lent (goal.at.After-set_priority c).Start m → Decides m (event 5 c.args.who a c.args.b j) (Place q)
-  placed m a j l = let v = c in subst (Decides m (event 5 v.args.who a v.args.b j)) is (right c m a j l)
+module _ (c : In-Some) where
+  abbrev q : Written
+  q = c.in-Some.plan
+
+  abbrev home : ℕ
+  home = c.task_at-named.result.cpu
 
   abbrev new : Task
-  new = let v = c in with_prio v.args.b (as_task v.task_at-named.result)
+  new = with_prio c.args.b (as_task c.task_at-named.result)
 
-  shaped : let v = c in Reorders v.args.who v.task_at-named.result.cpu new (as_plan q)
-  shaped =
-      let v = c in
-      subst (Shaped (Reorders v.args.who v.task_at-named.result.cpu new)) is v.set_priority.ensures.fact_2
+  shaped : Reorders c.args.who home new (as_plan q)
+  shaped = subst (λ (o : Option Written). IfSome o (λ p. Reorders c.args.who home new (as_plan p))) c.in-Some.is c.in_ok-plan.ensures.shaped
 
-  -- the other columns are what they were
-  becomes : (m : Machine) → Lent (goal.at.After-set_priority c).Start m → as_task q.becomes ≡ with_prio c.args.b (task_of m q.task)
-  becomes m l =
-      let v = c in
-      let e = reorders_task q v.args.who v.task_at-named.result.cpu new shaped in
-      e.1 ∙ ap (with_prio v.args.b) (columns_are l v.args.who v.task_at-named.ensures) ∙ ap (λ (t : ℕ). with_prio v.args.b (task_of m t)) (sym e.0)
+  module _ {m : Machine} (l : Lent (goal.at.In-Some c).Start m) where
+    placed : (a k : ℕ) → Plans m (event 5 c.args.who a c.args.b k) q
+    placed a k =
+        let e = event 5 c.args.who a c.args.b k in
+        subst (λ (o : Option Written). PlannedOrNot (refusal m e) (effect e m) m (Ok o)) c.in-Some.is
+        (judged (goal.at.In-Some c).Start m a k (Ok c.in_ok-plan.field-0) (c.in_ok-plan.ensures.decided m 5 a k (named_is l c.args.who c.task_at-named.ensures)))
+
+    -- the other columns are what they were
+    becomes : as_task q.becomes ≡ with_prio c.args.b (task_of m q.task)
+    becomes =
+        let e = reorders_task q c.args.who home new shaped in
+        e.1 ∙ ap (with_prio c.args.b) (columns_are l c.args.who c.task_at-named.ensures) ∙ ap (λ (t : ℕ). with_prio c.args.b (task_of m t)) (sym e.0)
+
+    home_kept : q.becomes.cpu ≡ (task_of m q.task).cpu
+    home_kept = ap (λ (τ : Task). τ.cpu) becomes
+
+    state : c.args.state.now ≡ set m.state q.task q.becomes.state
+    state = unchanged q.task l.holds.state (ap (λ (τ : Task). τ.state) becomes)
+
+    policy : c.args.policy.now ≡ set m.policy q.task q.becomes.policy
+    policy = unchanged q.task l.holds.policy (ap (λ (τ : Task). τ.policy) becomes)
+
+    slice : c.args.slice.now ≡ set m.slice q.task q.becomes.slice
+    slice = unchanged q.task l.holds.slice (ap (λ (τ : Task). τ.slice) becomes)
+
+    mask : c.args.mask.now ≡ set m.mask q.task q.becomes.mask
+    mask = unchanged q.task l.holds.mask (ap (λ (τ : Task). τ.mask) becomes)
+
+    prio : set c.args.prio.now q.task q.becomes.prio ≡ set m.prio q.task q.becomes.prio
+    prio = written q.task q.becomes.prio l.holds.prio
+
+    abbrev Goes : Plan → Type 0
+    Goes p =
+        let x = c.args in
+        Moving m p x.state.now (set x.prio.now q.task q.becomes.prio) x.cpu.now x.rows.now x.counts.now x.flags.now x.«record».now
+
+    -- where it does not enter a row
+    module _ (z : q.enters ≡ None) where
+      there : as_plan q ≡ rewrite q.task (as_task q.becomes)
+      there = stays_there q c.args.who home new shaped z
+
+      stays : Goes (rewrite q.task (as_task q.becomes))
+      stays = moving l (event 5 c.args.who 0 c.args.b 0) q (placed 0 0) there home_kept state prio
+
+    -- and where it does
+    module _ {to : Entry} (z : q.enters ≡ Some to) where
+      elsewhere : as_plan q ≡ reorder to.front q.task to.target (as_task q.becomes)
+      elsewhere = takes_place q c.args.who home new shaped z
+
+      goes : Goes (reorder to.front q.task to.target (as_task q.becomes))
+      goes = moving l (event 5 c.args.who 0 c.args.b 0) q (placed 0 0) elsewhere home_kept state prio
 
 -- ---- the needs
+
 pub task_at-named-requires : goal.task_at-named-requires
 task_at-named-requires c = let all = sized c.requires.1 in record {
   state_len = all.0;
@@ -65,71 +112,51 @@ task_at-named-requires c = let all = sized c.requires.1 in record {
   mask_len = all.1.1.1.1.1;
 }
 
-pub stay-requires : goal.stay-requires
-stay-requires c =
-    let m = c.requires.0 in
-    let l = c.requires.1 in
-    let h = l.holds in
-    let w = (goal.at.stay-requires c).After-set_priority in
-    let q = c.in-Place.plan in
-    let is = c.in-Place.is in
-    let t = q.task in
-    let x = becomes w q is m l in
-    (m, (as_task q.becomes, moving l (event 5 c.args.who 0 c.args.b 0) (placed w q is m 0 0 l) (stays_there q c.args.who c.task_at-named.result.cpu (new w q is) (shaped w q is) (not-true c.in-Place.plan.enters c.if-not-plan.true)) (ap (λ (τ : Task). τ.cpu) x) (unchanged t h.state (ap (λ (τ : Task). τ.state) x)) (written t q.becomes.prio h.prio)))
-
-pub returns-then-not-plan : goal.returns-then-not-plan
-returns-then-not-plan c =
-    λ m a j l.
-    let h = l.holds in
-    let w = (goal.at.returns-then-not-plan c).After-set_priority in
-    let q = c.in-Place.plan in
-    let is = c.in-Place.is in
-    let t = q.task in
-    let e = event 5 c.args.who a c.args.b j in
-    let d = placed w q is m a j l in
-    let x = becomes w q is m l in
-    let s = (stays_there q c.args.who c.task_at-named.result.cpu (new w q is) (shaped w q is) (not-true c.in-Place.plan.enters c.if-not-plan.true)) in
-    placed_is l e d s (unchanged t h.state (ap (λ (τ : Task). τ.state) x)) (unchanged t h.policy (ap (λ (τ : Task). τ.policy) x)) (written t q.becomes.prio h.prio) (unchanged t h.slice (ap (λ (τ : Task). τ.slice) x)) (unchanged t h.mask (ap (λ (τ : Task). τ.mask) x)) (c.stay.ensures m (as_task q.becomes) (moving l e d s (ap (λ (τ : Task). τ.cpu) x) (unchanged t h.state (ap (λ (τ : Task). τ.state) x)) (written t q.becomes.prio h.prio))) c.done.ensures
-
-pub reorder-requires : goal.reorder-requires
-reorder-requires c =
-    let m = c.requires.0 in
-    let l = c.requires.1 in
-    let h = l.holds in
-    let w = (goal.at.reorder-requires c).After-set_priority in
-    let q = c.in-Place.plan in
-    let is = c.in-Place.is in
-    let t = q.task in
-    let x = becomes w q is m l in
-    (m, (as_task q.becomes, moving l (event 5 c.args.who 0 c.args.b 0) (placed w q is m 0 0 l) (takes_place q c.args.who c.task_at-named.result.cpu (new w q is) (shaped w q is) (not-false c.in-Place.plan.enters c.if-not-plan.false)) (ap (λ (τ : Task). τ.cpu) x) (unchanged t h.state (ap (λ (τ : Task). τ.state) x)) (written t q.becomes.prio h.prio)))
-
-pub returns-in-Refused : goal.returns-in-Refused
-returns-in-Refused c =
-    λ m a j l.
-    let e = event 5 c.args.who a c.args.b j in
-    refused_is l e (subst (Decides m e) c.in-Refused.is (right (goal.at.returns-in-Refused c).After-set_priority m a j l)) c.refused.ensures
-
-pub returns-else-not-plan : goal.returns-else-not-plan
-returns-else-not-plan c =
-    λ m a j l.
-    let h = l.holds in
-    let w = (goal.at.returns-else-not-plan c).After-set_priority in
-    let q = c.in-Place.plan in
-    let is = c.in-Place.is in
-    let t = q.task in
-    let e = event 5 c.args.who a c.args.b j in
-    let d = placed w q is m a j l in
-    let x = becomes w q is m l in
-    let s = (takes_place q c.args.who c.task_at-named.result.cpu (new w q is) (shaped w q is) (not-false c.in-Place.plan.enters c.if-not-plan.false)) in
-    placed_is l e d s (unchanged t h.state (ap (λ (τ : Task). τ.state) x)) (unchanged t h.policy (ap (λ (τ : Task). τ.policy) x)) (written t q.becomes.prio h.prio) (unchanged t h.slice (ap (λ (τ : Task). τ.slice) x)) (unchanged t h.mask (ap (λ (τ : Task). τ.mask) x)) (c.reorder.ensures m (as_task q.becomes) (moving l e d s (ap (λ (τ : Task). τ.cpu) x) (unchanged t h.state (ap (λ (τ : Task). τ.state) x)) (written t q.becomes.prio h.prio))) c.done-in-Place.ensures
-
-pub returns-in_default : goal.returns-in_default
-returns-in_default c =
-    λ m a j l.
-    let e = event 5 c.args.who a c.args.b j in
-    nothing_is l e (subst (Decides m e) (only_nothing (Reorders c.args.who c.task_at-named.result.cpu (with_prio c.args.b (as_task c.task_at-named.result))) c.set_priority.result c.in_default.not-Refused c.in_default.not-Place c.set_priority.ensures.fact_2) (right (goal.at.returns-in_default c).After-set_priority m a j l)) c.quiet.ensures
-
 pub bounds-prio-plan : goal.bounds-prio-plan
 bounds-prio-plan c =
     let l = c.requires.1 in
-    omega (arith, sized l, place_task c.requires.0 (event 5 c.args.who 0 c.args.b 0) c.in-Place.plan (placed (goal.at.bounds-prio-plan c).After-set_priority c.in-Place.plan c.in-Place.is c.requires.0 0 0 l))
+    let w = (goal.at.bounds-prio-plan c).In-Some in
+    omega (arith, sized l, place_task c.requires.0 (event 5 c.args.who 0 c.args.b 0) (q w) (placed w l 0 0))
+
+pub stay-requires : goal.stay-requires
+stay-requires c =
+    let w = (goal.at.stay-requires c).In-Some in
+    (c.requires.0, (as_task (q w).becomes, stays w c.requires.1 c.in_default-enters.is))
+
+pub reorder-requires : goal.reorder-requires
+reorder-requires c =
+    let w = (goal.at.reorder-requires c).In-Some in
+    (c.requires.0, (as_task (q w).becomes, goes w c.requires.1 c.in-Some-enters.is))
+
+-- ---- what it leaves
+
+pub returns-in_err-plan : goal.returns-in_err-plan
+returns-in_err-plan c =
+    λ m a k l.
+    let x = c.in_err-plan.field-0.0 in
+    passed_on l (event 5 c.args.who a c.args.b k) x c.from_residual.result c.from_residual.ensures.1
+    (judged (goal.at.returns-in_err-plan c).Start m a k (Err x) (c.in_err-plan.ensures.decided m 5 a k (named_is l c.args.who c.task_at-named.ensures)))
+
+pub returns-in_default : goal.returns-in_default
+returns-in_default c =
+    λ m a k l.
+    let e = event 5 c.args.who a c.args.b k in
+    let d = subst (λ (o : Option Written). PlannedOrNot (refusal m e) (effect e m) m (Ok o)) c.in_default.is
+    (judged (goal.at.returns-in_default c).Start m a k (Ok c.in_ok-plan.field-0) (c.in_ok-plan.ensures.decided m 5 a k (named_is l c.args.who c.task_at-named.ensures))) in
+    nothing_is l e d.0 d.1
+
+pub returns-in_default-enters : goal.returns-in_default-enters
+returns-in_default-enters c =
+    λ m a k l.
+    let w = (goal.at.returns-in_default-enters c).In-Some in
+    let z = c.in_default-enters.is in
+    placed_is l (event 5 c.args.who a c.args.b k) (q w) (placed w l a k) (there w l z) (state w l) (policy w l) (prio w l) (slice w l) (mask w l)
+    (c.stay.ensures m (as_task (q w).becomes) (stays w l z))
+
+pub returns : goal.returns
+returns c =
+    λ m a k l.
+    let w = (goal.at.returns c).In-Some in
+    let z = c.in-Some-enters.is in
+    placed_is l (event 5 c.args.who a c.args.b k) (q w) (placed w l a k) (elsewhere w l z) (state w l) (policy w l) (prio w l) (slice w l) (mask w l)
+    (c.reorder.ensures m (as_task (q w).becomes) (goes w l z))

@@ -1,26 +1,29 @@
 -- `choosing::draw` meets its contract.
 -- Assumes nothing.
-use Rattle.choosing.proofs.Steps.{prio_size, cpu_size, mask_size, words_mark, new_stored, one_fell, leads_drawn}
+use mathlib.Core.Path.{sym, subst}
+use Rattle.std.specs.Prelude as code
+use Rattle.choosing.specs.Choosing.{Leads}
+use Rattle.mover.specs.declared.pick.Mover.{Mover}
+use Rattle.choosing.proofs.Steps.{task_of_best, words_mark, new_stored, leads_drawn}
 use Rattle.choosing.proofs.draw.Goals as goal
 
-pub step_of-movable-requires : goal.step_of-movable-requires
-step_of-movable-requires c =
-    let p = c.requires.choosing.1 in record {
-      prio_len = prio_size p.0;
-      cpu_len = cpu_size p.0;
-      mask_len = mask_size p.0;
-      task_lt_task_places = new_stored p.0 _ _ (one_fell c.args.few p.1 c.requires.fallen_lt_cpu_places);
-      marked = words_mark p.0;
-    }
+pub if_movable-movable-requires-clause-task : goal.if_movable-movable-requires-clause-task
+if_movable-movable-requires-clause-task c = let p = c.requires.1 in new_stored p.0 _ c.args.new p.1
 
-pub pick-requires : goal.pick-requires
-pick-requires c =
-    let p = c.requires.choosing in record {
-      asked = c.requires.fallen_lt_cpu_places;
-      looking = (p.0, (p.1.0.looking, p.1.0.cpus));
-    }
+pub if_movable-movable-requires-clause-marked : goal.if_movable-movable-requires-clause-marked
+if_movable-movable-requires-clause-marked c = words_mark c.requires.1.0
+
+pub returns-in_err-mover : goal.returns-in_err-mover
+returns-in_err-mover c =
+    λ m l h.
+    let x = c.args in
+    subst (Leads m x.«record».now.masks x.prio.now x.cpu.now x.mask.now) (sym c.from_residual.ensures)
+    (subst (λ (b : code.Option Mover). Leads m x.«record».now.masks x.prio.now x.cpu.now x.mask.now (task_of_best b)) c.in_err-mover.was
+    (leads_drawn l x.fallen x.new h c.if_movable-movable.result c.if_movable-movable.ensures c.pick.result (c.pick.ensures m l.looking tt l.cpus)))
 
 pub returns : goal.returns
 returns c =
     λ m l h.
-    leads_drawn l _ _ (one_fell c.args.few h c.requires.fallen_lt_cpu_places) c.step_of-movable.result c.step_of-movable.ensures c.pick.result (c.pick.ensures m l.looking tt l.cpus)
+    let x = c.args in
+    subst (λ (b : code.Option Mover). Leads m x.«record».now.masks x.prio.now x.cpu.now x.mask.now (task_of_best b)) c.in_ok-mover.was
+    (leads_drawn l x.fallen x.new h c.if_movable-movable.result c.if_movable-movable.ensures c.pick.result (c.pick.ensures m l.looking tt l.cpus))

@@ -1,16 +1,15 @@
 -- `choosing::foremost` meets its contract.
 -- Assumes nothing.
-use Rattle.choosing.proofs.Steps.{none_fell, leads_new}
+use mathlib.Core.Path.{subst}
+use Prim.Native.Nat.{ℕ}
+use Rattle.std.specs.Prelude as code
+use Rattle.laws.specs.Limited.{Limited}
+use Rattle.hinting.specs.Hinted.{ruled}
+use Rattle.choosing.proofs.Steps.{leads_new}
 use Rattle.choosing.proofs.foremost.Goals as goal
 
-pub returns-then-few-ge-CPUS : goal.returns-then-few-ge-CPUS
-returns-then-few-ge-CPUS c = λ m l h. leads_new l _ (none_fell c.args.few h c.if-few-ge-CPUS.true)
-
-pub draw-requires : goal.draw-requires
-draw-requires c = record {
-  fallen_lt_cpu_places = c.if-few-ge-CPUS.false;
-  choosing = c.requires;
-}
-
-pub returns : goal.returns
-returns c = λ m l h. c.draw.ensures m l h
+pub returns-in_default : goal.returns-in_default
+returns-in_default c =
+    λ m l h.
+    let few = c.args.few in
+    leads_new l few.new (subst (λ (o : code.Option ℕ). Limited m (ruled o) (ruled few.new)) c.in_default.is h)

@@ -4,30 +4,14 @@ use Rattle.std.proofs.Common.{arith}
 use Rattle.consistency.proofs.CpuBits.{eight_cpus, eight_fit}
 use Rattle.consistency.proofs.block.Goals as goal
 
-pub alike-requires : goal.alike-requires
-alike-requires c = omega (arith, c.requires.from_len, c.requires.cpu_bound.0)
-
 pub take-requires : goal.take-requires
 take-requires c =
     let x = c.args in record {
       from_len = c.requires.from_len;
       le_more = (omega arith, c.requires.cpu_bound.0, eight_cpus x.cpu x.cpus c.requires.cpu_bound.0 c.requires.cpu_bound.1);
-      by_index = c.alike.ensures c.if-alike.true;
+      alike = c.alike.ensures c.if-alike.true;
       gathered = c.requires.gathered;
     }
-
-pub returns-then-alike : goal.returns-then-alike
-returns-then-alike c = c.take.ensures
-
-pub each-requires : goal.each-requires
-each-requires c = record {
-  from_len = c.requires.from_len;
-  start_le_end = (omega arith, c.requires.cpu_bound.0, c.requires.cpu_bound.1);
-  gathered = c.requires.gathered;
-}
-
-pub returns : goal.returns
-returns c = c.each.ensures
 
 pub overflow_mul-cpus : goal.overflow_mul-cpus
 overflow_mul-cpus c = record { fits = eight_fit c.args.cpu c.args.cpus c.requires.cpu_bound.0 c.requires.cpu_bound.1 }

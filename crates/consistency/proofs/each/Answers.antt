@@ -1,15 +1,10 @@
 -- `consistency::each` meets its contract. The loop's invariant: the pass has come to `cpu`.
 -- Assumes nothing.
-use Rattle.std.proofs.Common.{◌≡◌, ℕ, ◌+◌, ◌<◌, Bool, true, get_or, refl, ap, subst, le_refl, arith}
+use Rattle.std.proofs.Common.{◌≡◌, ℕ, ◌+◌, ◌<◌, Bool, true, get_or, refl, ap, subst, arith}
 use Rattle.consistency.specs.Gathered.{Gathers}
 use Rattle.consistency.proofs.CpuBits.{bit_next, one_cpu}
-use Rattle.consistency.proofs.Taken.{gathers_none, gathers_on, gathers_fails}
+use Rattle.consistency.proofs.Taken.{gathers_on}
 use Rattle.consistency.proofs.each.Goals as goal
-
-pub loop-cpu-init : goal.loop-cpu-init
-loop-cpu-init c =
-    let x = c.args in
-    (le_refl x.start, c.requires.start_le_end.0, c.requires.start_le_end.2, gathers_none x.from.now x.start x.left.now c.requires.gathered)
 
 pub take-requires : goal.take-requires
 take-requires c =
@@ -17,19 +12,10 @@ take-requires c =
     let l = c.loop-cpu in
     let below : l.cpu < 64 = omega (arith, c.requires.start_le_end.1, c.loop-cpu-test.true) in record {
       from_len = c.requires.from_len;
-      le_more = (omega arith, omega (arith, below), one_cpu l.cpu l.cpus below l.invariant.2);
-      by_index = (λ i h. let first : l.cpu + i ≡ l.cpu = omega arith in ap (λ (j : ℕ). get_or x.from.now j 0) first);
-      gathered = l.invariant.3.right refl;
+      le_more = (omega arith, omega (arith, below), one_cpu l.cpu l.cpus below l.invariant.0);
+      alike = (λ i h. let first : l.cpu + i ≡ l.cpu = omega arith in ap (λ (j : ℕ). get_or x.from.now j 0) first);
+      gathered = l.invariant.1.right refl;
     }
-
-pub returns-then-not-take : goal.returns-then-not-take
-returns-then-not-take c =
-    let x = c.args in
-    let q = c.take.ensures.none c.if-not-take.true in
-    gathers_fails x.from.now x.start x.end q.0 (omega (arith, q.1.0, c.loop-cpu-test.true)) q.1.1
-
-pub loop-cpu-smaller : goal.loop-cpu-smaller
-loop-cpu-smaller c = omega (arith, c.loop-cpu-test.true)
 
 pub loop-cpu-preserved : goal.loop-cpu-preserved
 loop-cpu-preserved c =
@@ -37,10 +23,8 @@ loop-cpu-preserved c =
     let x = c.args in
     let t = c.take in
     let q = c.take.new in (
-      omega (arith, l.invariant.0),
-      omega (arith, c.loop-cpu-test.true),
-      bit_next l.cpu l.cpus l.invariant.2,
-      gathers_on l.invariant.0 (omega arith) l.invariant.3
+      bit_next l.cpu l.cpus l.invariant.0,
+      gathers_on l.auto.cpu (omega arith) l.invariant.1
           (subst (λ (b : Bool). Gathers x.from.now l.cpu (l.cpu + 1) b l.left q.left q.counts q.words) c.if-not-take.false t.ensures),
     )
 
@@ -48,5 +32,5 @@ pub returns : goal.returns
 returns c =
     let l = c.loop-cpu in
     let x = c.args in
-    let end : l.cpu ≡ x.end = omega (arith, l.invariant.1, c.loop-cpu-test.false) in
-    subst (λ (j : ℕ). Gathers x.from.now x.start j true x.left.now l.left l.counts l.words) end l.invariant.3
+    let end : l.cpu ≡ x.end = omega (arith, c.requires.start_le_end.0) in
+    subst (λ (j : ℕ). Gathers x.from.now x.start j true x.left.now l.left l.counts l.words) end l.invariant.1

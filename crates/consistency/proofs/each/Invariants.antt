@@ -1,12 +1,8 @@
 -- `consistency::each` meets its contract. The loop's invariant: the pass has come to `cpu`.
 -- Assumes nothing.
-use Rattle.std.proofs.Common.{◌≡◌, ◌-◌, ◌≤◌, true}
+use Rattle.std.proofs.Common.{◌≡◌, true}
 use Rattle.consistency.specs.Gathered.{cpu_bit, Gathers}
 use Rattle.consistency.proofs.each.Given as goal
 
 abbrev pub invariant-loop-cpu : goal.invariant-loop-cpu
-invariant-loop-cpu l =
-    (l.start ≤ l.cpu) × (l.cpu ≤ l.end) × (l.cpus ≡ cpu_bit l.cpu) × Gathers l.from l.start l.cpu true l.initial.left l.left l.counts l.words
-
-abbrev pub decreases-loop-cpu : goal.decreases-loop-cpu
-decreases-loop-cpu l = l.end - l.cpu
+invariant-loop-cpu l = (l.cpus ≡ cpu_bit l.cpu) × Gathers l.from l.start l.cpu true l.initial.left l.left l.counts l.words

@@ -1,31 +1,11 @@
 -- `consistency::gather` meets its contract. The loop's invariant: the pass has come to `cpu`.
 -- Assumes nothing.
-use Rattle.std.proofs.Common.{◌+◌, Bool, refl, subst, zero-le, arith}
-use Rattle.consistency.specs.Gathered.{Gathers}
+use Rattle.std.proofs.Common.{◌≡◌, ℕ, ◌+◌, ◌-◌, ◌%◌, Bool, true, List, refl, sym, ap, ◌∙◌, subst, zero-le, arith}
+use Rattle.consistency.specs.Gathered.{cpu_bit, Gathers}
 use Rattle.consistency.proofs.CpuBits.{bit_eighth}
-use Rattle.consistency.proofs.Taken.{gathers_none, gathers_on, gathers_fails}
+use Rattle.consistency.proofs.Taken.{gathers_on}
+use Rattle.consistency.proofs.gather.Goals.{else-loop-cpu-test, then-loop-cpu-test+else-not-block+else-rest-cpu-gt8, Left-loop-cpu}
 use Rattle.consistency.proofs.gather.Goals as goal
-
-pub loop-cpu-init : goal.loop-cpu-init
-loop-cpu-init c =
-    (zero-le, refl, gathers_none c.args.from.now 0 c.args.left.now c.requires.gathered)
-
-pub block-requires : goal.block-requires
-block-requires c =
-    let l = c.loop-cpu in record {
-      from_len = c.requires.from_len;
-      cpu_bound = (omega (arith, c.requires.end_le_cpu_places, c.loop-cpu-test.true), l.invariant.1);
-      gathered = l.invariant.2.right refl;
-    }
-
-pub returns-then-not-block : goal.returns-then-not-block
-returns-then-not-block c =
-    let x = c.args in
-    let q = c.block.ensures.none c.if-not-block.true in
-    gathers_fails x.from.now 0 x.end q.0 (omega (arith, q.1.0, c.loop-cpu-test.true)) q.1.1
-
-pub loop-cpu-smaller : goal.loop-cpu-smaller
-loop-cpu-smaller c = omega (arith, c.loop-cpu-test.true)
 
 pub loop-cpu-preserved : goal.loop-cpu-preserved
 loop-cpu-preserved c =
@@ -33,18 +13,48 @@ loop-cpu-preserved c =
     let x = c.args in
     let t = c.block in
     let q = c.block.new in (
-      c.loop-cpu-test.true,
-      bit_eighth l.cpu l.cpus l.invariant.1,
-      gathers_on zero-le (omega arith) l.invariant.2
+      omega (arith, l.invariant.0),
+      omega (arith, l.invariant.0),
+      bit_eighth l.cpu l.cpus l.invariant.2,
+      gathers_on zero-le (omega arith) l.invariant.3
           (subst (λ (b : Bool). Gathers x.from.now l.cpu (l.cpu + 8) b l.left q.left q.counts q.words) c.if-not-block.false t.ensures),
     )
 
+-- the same pass, to a place and with tables that are the same
+came : {from : List ℕ} {j j' : ℕ} {left rest rest' counts counts' words words' : List ℕ} → j ≡ j' → rest ≡ rest' → counts ≡ counts' → words ≡ words'
+    → Gathers from 0 j' true left rest' counts' words' → Gathers from 0 j true left rest counts words
+came e r c w g = rw (e, r, c, w) g
+
+-- when the loop is left, the pass has come to the rest
+module _ (c : Left-loop-cpu) where
+  abbrev rest : ℕ
+  rest = c.args.end - c.args.end % 8
+
+  passed : (c.loop-cpu-test.cpus ≡ cpu_bit rest)
+      × Gathers c.args.from.now 0 rest true c.args.left.now c.loop-cpu-test.left c.loop-cpu-test.counts c.loop-cpu-test.words
+  passed =
+      let l = c.loop-cpu in
+      elim c.loop-cpu-test.branch [
+        | else-loop-cpu-test w ↦
+            let all : rest ≡ l.cpu = omega (arith, l.invariant.1, w.loop-cpu-test.false) in
+            (w.cpus-is ∙ l.invariant.2 ∙ ap cpu_bit (sym all), came all w.left-is w.counts-is w.words-is l.invariant.3)
+        | then-loop-cpu-test+else-not-block+else-rest-cpu-gt8 w ↦
+            let all : rest ≡ l.cpu + 8 = omega (arith, l.invariant.0) in
+            let q = w.block.new in (
+              w.cpus-is ∙ bit_eighth l.cpu l.cpus l.invariant.2 ∙ ap cpu_bit (sym all),
+              came all w.left-is w.counts-is w.words-is
+                  (gathers_on zero-le (omega arith) l.invariant.3
+                  (subst (λ (b : Bool). Gathers c.args.from.now l.cpu (l.cpu + 8) b l.left q.left q.counts q.words) w.if-not-block.false w.block.ensures)),
+            )
+      ]
+
 pub each-requires : goal.each-requires
-each-requires c = let l = c.loop-cpu in record {
-  from_len = c.requires.from_len;
-  start_le_end = (l.invariant.0, c.requires.end_le_cpu_places, l.invariant.1);
-  gathered = l.invariant.2.right refl;
-}
+each-requires c =
+    let p = passed (goal.at.each-requires c).Left-loop-cpu in record {
+      from_len = c.requires.from_len;
+      start_le_end = (omega arith, c.requires.end_le_cpu_places, p.0);
+      gathered = p.1.right refl;
+    }
 
 pub returns : goal.returns
-returns c = gathers_on zero-le c.loop-cpu.invariant.0 c.loop-cpu.invariant.2 c.each.ensures
+returns c = gathers_on zero-le (omega arith) (passed (goal.at.returns c).Left-loop-cpu).1 c.each.ensures

@@ -1,10 +1,9 @@
 -- `consistency::is_consistent` meets its contract.
 -- Assumes nothing.
 use Rattle.std.proofs.Common.{◌≡◌, ℕ, ◌<◌, min, true, List, length, get_or, sym, refl, ap, ◌∙◌, zero-le, arith}
-use Rattle.levels.specs.Level.{level_count, cpu_places, known}
+use Rattle.levels.specs.Level.{cpu_places, known}
 use Rattle.levels.specs.Record.{lent_record, masks_of, counts_of, words_of}
 use Rattle.levels.specs.declared.record.Record.{Record}
-use Rattle.levels.proofs.Moved.{length_counts}
 use Rattle.whole.specs.Whole.{same, invalid_from}
 use Rattle.consistency.specs.Gathered.{Left}
 use Rattle.whole.proofs.From.{from_bounded}
@@ -50,10 +49,7 @@ module _ (c : Else-not-gather) where
   left_is =
       let k = c in
       k.gather.ensures.takes passed k.args.masks.now
-      (left_start k.args.levels.now 0 k.args.masks.now k.copy_u64.new.to k.requires.mask k.requires.masks k.copy_u64.ensures)
-
-pub copy_u64-requires : goal.copy_u64-requires
-copy_u64-requires c = sym c.requires.masks
+      (left_start k.args.levels.now 0 k.args.masks.now k.copy_from_slice.new.self k.requires.mask k.requires.masks k.copy_from_slice.ensures.after)
 
 pub gather-requires : goal.gather-requires
 gather-requires c =
@@ -68,20 +64,6 @@ returns-then-not-gather c =
     let q = c.gather.ensures.none c.if-not-gather.true in
     let e = end_is (goal.at.returns-then-not-gather c).After-places in
     unfit c.args.n (lent (goal.at.returns-then-not-gather c).Start) q.0 (omega (arith, q.1.0, e)) (omega (arith, q.1.0, e, c.requires.levels)) q.1.1
-
-pub same_u64-requires : goal.same_u64-requires
-unfolding words_of
-same_u64-requires c = c.requires.words ∙ sym (ap length (words_are (goal.at.same_u64-requires c).Else-not-gather))
-
-pub absent-requires : goal.absent-requires
-absent-requires c = c.requires.levels
-
-pub same_u8-requires : goal.same_u8-requires
-same_u8-requires c =
-    let long : length c.gather.new.counts ≡ level_count = ap length (counts_are (goal.at.same_u8-requires c).Else-not-gather) ∙ length_counts (right (goal.at.same_u8-requires c).Start) in record {
-      a_len = c.requires.counts ∙ sym long;
-      in_bounds = omega (arith, long);
-    }
 
 pub returns : goal.returns
 returns c =

@@ -33,34 +33,32 @@ rest-requires c =
         tick = r.0.1;
         yield = r.1;
       };
-      fact = c.requires;
+      lent = c.requires;
     }
 
 pub returns-in-3 : goal.returns-in-3
-returns-in-3 c = λ m l n f. let x = c.args in by_number c.in-3.is (c.wake.ensures m x.a x.b x.k l)
+returns-in-3 c = λ m l n f. let x = c.args.event in by_number c.in-3.is (c.wake.ensures m x.a x.b x.mask l)
 
 pub returns-in-4 : goal.returns-in-4
 returns-in-4 c =
     λ m l n f.
-    let x = c.args in
-    by_number c.in-4.is (given_online l.holds.online (c.sleep.ensures m x.a x.b x.k (own_online l)))
+    let x = c.args.event in
+    by_number c.in-4.is (given_online l.holds.online (c.sleep.ensures m x.a x.b x.mask (own_online l)))
 
 pub returns-in-5 : goal.returns-in-5
 returns-in-5 c =
     λ m l n f.
-    let x = c.args in
-    by_number c.in-5.is (given_online l.holds.online (c.set_priority.ensures m x.a x.k (own_online l)))
+    let x = c.args.event in
+    by_number c.in-5.is (given_online l.holds.online (c.set_priority.ensures m x.a x.mask (own_online l)))
 
 pub returns-in-6 : goal.returns-in-6
-returns-in-6 c = λ m l n f. let x = c.args in by_number c.in-6.is (c.set_affinity.ensures m x.a x.b l n)
+returns-in-6 c = λ m l n f. let x = c.args.event in by_number c.in-6.is (c.set_affinity.ensures m x.a x.b l n)
 
 pub returns-in-7 : goal.returns-in-7
-returns-in-7 c = λ m l n f. let x = c.args in by_number c.in-7.is (c.tick.ensures m x.a x.b x.k l n f)
+returns-in-7 c = λ m l n f. let x = c.args.event in by_number c.in-7.is (c.tick.ensures m x.a x.b x.mask l n f)
 
 pub returns-in-8 : goal.returns-in-8
-returns-in-8 c = λ m l n f. let x = c.args in by_number c.in-8.is (c.yield_cpu.ensures m x.a x.b x.k l n)
+returns-in-8 c = λ m l n f. let x = c.args.event in by_number c.in-8.is (c.yield_cpu.ensures m x.a x.b x.mask l n)
 
 pub returns-in_default : goal.returns-in_default
 returns-in_default c = λ m l n f. c.rest.ensures m l n f
-
--- ---- lengths: the tables that an arm lends keep theirs

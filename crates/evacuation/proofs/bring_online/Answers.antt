@@ -17,6 +17,6 @@ follow-requires c =
 pub returns : goal.returns
 returns c =
     record {
-      fact_1 = c.set_bit.ensures;
-      fact_2 = λ m l. levels_back l (c.follow.ensures (with_cpu c.args.cpu m) (back_follows l));
+      online_set = c.set_bit.ensures;
+      record_follows = λ m l. levels_back l (c.follow.ensures (with_cpu c.args.cpu m) (back_follows l));
     }

@@ -11,7 +11,7 @@ pub dequeue-requires : goal.dequeue-requires
 dequeue-requires c = let all = may_leave c.requires.1.0 c.requires.1.1 in record {
   holds_rows = all.0;
   cpu_in_bounds = all.1.0;
-  fact = all.1.1;
+  stands = all.1.1;
 }
 
 pub follow-requires : goal.follow-requires
@@ -19,7 +19,7 @@ follow-requires c =
     let l = c.requires.1.0 in
     let some = c.requires.1.1 in
     let t = get_or c.args.rows.now (c.args.cpu * 512) 0 in record {
-      following = (dequeue t c.args.cpu c.requires.0, follows l some c.dequeue.ensures.fact_1 c.dequeue.ensures.fact_2);
+      following = (dequeue t c.args.cpu c.requires.0, follows l some c.dequeue.ensures.rows_are c.dequeue.ensures.counts_are);
       whole = whole l;
     }
 
@@ -28,8 +28,8 @@ enter-requires c =
     let l = c.requires.1.0 in
     let some = c.requires.1.1 in
     let gone = dequeue (get_or c.args.rows.now (c.args.cpu * 512) 0) c.args.cpu c.requires.0 in
-    let levels = c.follow.ensures gone (follows l some c.dequeue.ensures.fact_1 c.dequeue.ensures.fact_2) in record {
-      fact = (gone, enters l some c.dequeue.ensures.fact_1 c.dequeue.ensures.fact_2 levels (target_is l some c.lowest_bit-target.ensures));
+    let levels = c.follow.ensures gone (follows l some c.dequeue.ensures.rows_are c.dequeue.ensures.counts_are) in record {
+      entering = (gone, enters l some c.dequeue.ensures.rows_are c.dequeue.ensures.counts_are levels (target_is l some c.lowest_bit-target.ensures));
       cpus_len = cpus_long l;
     }
 
@@ -37,9 +37,9 @@ pub returns : goal.returns
 returns c =
     λ m l some.
     let gone = dequeue (get_or c.args.rows.now (c.args.cpu * 512) 0) c.args.cpu m in
-    let levels = c.follow.ensures gone (follows l some c.dequeue.ensures.fact_1 c.dequeue.ensures.fact_2) in
+    let levels = c.follow.ensures gone (follows l some c.dequeue.ensures.rows_are c.dequeue.ensures.counts_are) in
     let to = target_is l some c.lowest_bit-target.ensures in
-    one_gone l some to (c.enter.ensures.fact_1 gone (enters l some c.dequeue.ensures.fact_1 c.dequeue.ensures.fact_2 levels to)) c.enter.ensures.fact_2
+    one_gone l some to (c.enter.ensures.held gone (enters l some c.dequeue.ensures.rows_are c.dequeue.ensures.counts_are levels to)) c.enter.ensures.cpus_set
 
 pub bounds-rows-cpu : goal.bounds-rows-cpu
 bounds-rows-cpu c = in_place c.requires.1.0 c.requires.1.1

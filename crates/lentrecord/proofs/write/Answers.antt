@@ -10,29 +10,29 @@ use Rattle.lentrecord.proofs.write.Goals as goal
 lent : (c : Start) → let a = c.args in Sized (length a.masks.now) (length a.counts.now) (length a.words.now) (length a.levels.now)
 lent c = let a = c.args in sized (length a.masks.now) (length a.counts.now) (length a.words.now) (length a.levels.now) c.requires
 
-pub copy_u64-requires : goal.copy_u64-requires
-copy_u64-requires c =
-    let s = (goal.at.copy_u64-requires c).Start in
-    let e : 102 ≡ length s.args.record.masks = search rules in
+pub copy_from_slice-requires : goal.copy_from_slice-requires
+copy_from_slice-requires c =
+    let s = (goal.at.copy_from_slice-requires c).Start in
+    let e : 102 ≡ length s.args.«record».now.masks = search rules in
     (lent s).masks ∙ e
 
-pub copy_u8-requires : goal.copy_u8-requires
-copy_u8-requires c =
-    let s = (goal.at.copy_u8-requires c).Start in
-    let e : 102 ≡ length s.args.record.counts = search rules in
+pub copy_from_slice-requires-2 : goal.copy_from_slice-requires-2
+copy_from_slice-requires-2 c =
+    let s = (goal.at.copy_from_slice-requires-2 c).Start in
+    let e : 102 ≡ length s.args.«record».now.counts = search rules in
     (lent s).counts ∙ e
 
-pub copy_u64-requires-2 : goal.copy_u64-requires-2
-copy_u64-requires-2 c =
-    let s = (goal.at.copy_u64-requires-2 c).Start in
-    let e : 2 ≡ length s.args.record.words = search rules in
+pub copy_from_slice-requires-3 : goal.copy_from_slice-requires-3
+copy_from_slice-requires-3 c =
+    let s = (goal.at.copy_from_slice-requires-3 c).Start in
+    let e : 2 ≡ length s.args.«record».now.words = search rules in
     (lent s).words ∙ e
 
-pub copy_u8-requires-2 : goal.copy_u8-requires-2
-copy_u8-requires-2 c =
-    let s = (goal.at.copy_u8-requires-2 c).Start in
-    let e : 64 ≡ length s.args.record.levels = search rules in
+pub copy_from_slice-requires-4 : goal.copy_from_slice-requires-4
+copy_from_slice-requires-4 c =
+    let s = (goal.at.copy_from_slice-requires-4 c).Start in
+    let e : 64 ≡ length s.args.«record».now.levels = search rules in
     (lent s).levels ∙ e
 
 pub returns : goal.returns
-returns c = same_record c.copy_u64.ensures c.copy_u8.ensures c.copy_u64-2.ensures c.copy_u8-2.ensures
+returns c = same_record c.copy_from_slice.ensures.after c.copy_from_slice-2.ensures.after c.copy_from_slice-3.ensures.after c.copy_from_slice-4.ensures.after

@@ -4,7 +4,6 @@ use mathlib.Core.Path.{◌≡◌, ap, ap₂, ◌∙◌}
 use mathlib.Core.Bool.{not, true}
 use mathlib.Core.Logic.{◌⊎◌, inl, inr}
 use Prim.Native.Nat.{ℕ, ◌≤◌}
-use native.Mathlib.Nat.{suc-ne-zero}
 use native.Mathlib.Omega.{arith}
 use borrow.Author.Tests.{le-leb, lt-leb, not-false}
 use borrow.Author.Rules.{rules}
@@ -24,41 +23,32 @@ either (inl e) = omega arith
 either (inr e) = omega arith
 
 pub returns-then-who-ge-PLACES : goal.returns-then-who-ge-PLACES
-returns-then-who-ge-PLACES c = λ m kind n f l. (fails_here _ _ _ (le-leb task_places c.args.who c.if-who-ge-PLACES.true), suc-ne-zero 3)
+returns-then-who-ge-PLACES c = λ m kind n f l. fails_here _ _ _ (le-leb task_places c.args.who c.if-who-ge-PLACES.true)
 
 pub returns-then-named-ne-FREE : goal.returns-then-named-ne-FREE
 returns-then-named-ne-FREE c =
     λ m kind n f l.
-    (passes_here _ _ _ 5 (lt-leb task_places c.args.who c.if-who-ge-PLACES.false) (fails_here _ _ _ (ap not (not_in l free c.if-named-ne-FREE.true))), suc-ne-zero 4)
+    passes_here _ _ _ 5 (lt-leb task_places c.args.who c.if-who-ge-PLACES.false) (fails_here _ _ _ (ap not (not_in l free c.if-named-ne-FREE.true)))
 
 pub returns-then-not-known : goal.returns-then-not-known
 returns-then-not-known c =
-    λ m kind n f l. (
-      passes_here _ _ _ 6 (lt-leb task_places c.args.who c.if-who-ge-PLACES.false)
-          (passes_here _ _ _ 6 (ap not (is_in l free c.if-named-ne-FREE.false)) (fails_here _ _ _ (tested c.is_policy-known.ensures (ap not c.if-not-known.true)))),
-      suc-ne-zero 5,
-    )
+    λ m kind n f l. passes_here _ _ _ 6 (lt-leb task_places c.args.who c.if-who-ge-PLACES.false)
+    (passes_here _ _ _ 6 (ap not (is_in l free c.if-named-ne-FREE.false)) (fails_here _ _ _ (tested c.is_policy-known.ensures (ap not c.if-not-known.true))))
 
 pub returns-then-not-in_range : goal.returns-then-not-in_range
 returns-then-not-in_range c =
-    λ m kind n f l. (
-      passes_here _ _ _ 7 (lt-leb task_places c.args.who c.if-who-ge-PLACES.false)
-          (passes_here _ _ _ 7 (ap not (is_in l free c.if-named-ne-FREE.false))
-          (passes_here _ _ _ 7 (tested c.is_policy-known.ensures (ap not c.if-not-known.false)) (fails_here _ _ _ (tested c.is_priority-in_range.ensures (ap not c.if-not-in_range.true))))),
-      suc-ne-zero 6,
-    )
+    λ m kind n f l. passes_here _ _ _ 7 (lt-leb task_places c.args.who c.if-who-ge-PLACES.false)
+    (passes_here _ _ _ 7 (ap not (is_in l free c.if-named-ne-FREE.false))
+    (passes_here _ _ _ 7 (tested c.is_policy-known.ensures (ap not c.if-not-known.false)) (fails_here _ _ _ (tested c.is_priority-in_range.ensures (ap not c.if-not-in_range.true)))))
 
 pub returns-then-not-fits : goal.returns-then-not-fits
 returns-then-not-fits c =
     λ m kind n f l.
-    let in_range : c.is_priority-in_range.result ≡ true = search rules in (
-      passes_here _ _ _ 8 (lt-leb task_places c.args.who c.if-who-ge-PLACES.false)
-          (passes_here _ _ _ 8 (ap not (is_in l free c.if-named-ne-FREE.false))
-          (passes_here _ _ _ 8 (tested c.is_policy-known.ensures (ap not c.if-not-known.false))
-          (passes_here _ _ _ 8 (tested c.is_priority-in_range.ensures (ap not in_range))
-          (fails_here _ _ _ (tested_mask c.args.k n c.mask_fits-fits.ensures (ap not c.if-not-fits.true)))))),
-      suc-ne-zero 7,
-    )
+    let in_range : c.is_priority-in_range.result ≡ true = search rules in passes_here _ _ _ 8 (lt-leb task_places c.args.who c.if-who-ge-PLACES.false)
+    (passes_here _ _ _ 8 (ap not (is_in l free c.if-named-ne-FREE.false))
+    (passes_here _ _ _ 8 (tested c.is_policy-known.ensures (ap not c.if-not-known.false))
+    (passes_here _ _ _ 8 (tested c.is_priority-in_range.ensures (ap not in_range))
+    (fails_here _ _ _ (tested_mask c.args.k n c.mask_fits-fits.ensures (ap not c.if-not-fits.true))))))
 
 pub returns : goal.returns
 returns c =

@@ -2,7 +2,6 @@
 -- Assumes nothing.
 use mathlib.Core.Path.{ap, ◌∙◌}
 use mathlib.Core.Bool.{not}
-use native.Mathlib.Nat.{suc-ne-zero}
 use borrow.Author.Tests.{le-leb, lt-leb}
 use Rattle.rules.specs.Machine.{Task, asleep, runnable, task_places}
 use Rattle.rules.specs.Plan.{leave, with_state}
@@ -12,24 +11,24 @@ use Rattle.lifecycle.proofs.sleep.Goals as goal
 
 pub returns-then-who-ge-PLACES : goal.returns-then-who-ge-PLACES
 returns-then-who-ge-PLACES c = record {
-  fact_1 = λ m kind a b j l. (fails_here _ _ _ (le-leb task_places c.args.who c.if-who-ge-PLACES.true), suc-ne-zero 3);
-  fact_2 = tt;
+  decided = λ m kind a b j l. fails_here _ _ _ (le-leb task_places c.args.who c.if-who-ge-PLACES.true);
+  shaped = tt;
 }
 
 pub returns-then-named-ne-RUNNABLE : goal.returns-then-named-ne-RUNNABLE
 returns-then-named-ne-RUNNABLE c = record {
-  fact_1 = λ m kind a b j l.
-      (passes_here _ _ _ 5 (lt-leb task_places c.args.who c.if-who-ge-PLACES.false) (fails_here _ _ _ (ap not (not_in l runnable c.if-named-ne-RUNNABLE.true))), suc-ne-zero 4);
-  fact_2 = tt;
+  decided = λ m kind a b j l.
+      passes_here _ _ _ 5 (lt-leb task_places c.args.who c.if-who-ge-PLACES.false) (fails_here _ _ _ (ap not (not_in l runnable c.if-named-ne-RUNNABLE.true)));
+  shaped = tt;
 }
 
 pub returns : goal.returns
 returns c = record {
-  fact_1 = λ m kind a b j l.
+  decided = λ m kind a b j l.
       let t = c.args.who in
       let s = c.if-named-ne-RUNNABLE.false in (
         passes_here _ _ _ 0 (lt-leb task_places t c.if-who-ge-PLACES.false) (passes_here _ _ _ 0 (ap not (is_in l runnable s)) none_left),
         replaced (c.leave.ensures ∙ ap (λ (σ : Task). leave t σ.cpu (with_state asleep σ)) l.columns) (sleeps l c.if-who-ge-PLACES.false s),
       );
-  fact_2 = c.leave.ensures;
+  shaped = c.leave.ensures;
 }

@@ -2,7 +2,6 @@
 -- Assumes nothing.
 use mathlib.Core.Path.{ap, ◌∙◌}
 use mathlib.Core.Bool.{not}
-use native.Mathlib.Nat.{suc-ne-zero}
 use native.Mathlib.Omega.{arith}
 use borrow.Author.Tests.{le-leb, lt-leb}
 use Rattle.rules.specs.Machine.{Task, asleep, runnable, task_places}
@@ -15,26 +14,23 @@ use Rattle.lifecycle.proofs.wake.Goals as goal
 
 pub returns-then-who-ge-PLACES : goal.returns-then-who-ge-PLACES
 returns-then-who-ge-PLACES c = record {
-  fact_1 = λ m kind a b j on l. (fails_here _ _ _ (le-leb task_places c.args.who c.if-who-ge-PLACES.true), suc-ne-zero 3);
-  fact_2 = tt;
+  decided = λ m kind a b j on l. fails_here _ _ _ (le-leb task_places c.args.who c.if-who-ge-PLACES.true);
+  shaped = tt;
 }
 
 pub returns-then-named-ne-ASLEEP : goal.returns-then-named-ne-ASLEEP
 returns-then-named-ne-ASLEEP c = record {
-  fact_1 = λ m kind a b j on l.
-      (passes_here _ _ _ 5 (lt-leb task_places c.args.who c.if-who-ge-PLACES.false) (fails_here _ _ _ (ap not (not_in l asleep c.if-named-ne-ASLEEP.true))), suc-ne-zero 4);
-  fact_2 = tt;
+  decided = λ m kind a b j on l.
+      passes_here _ _ _ 5 (lt-leb task_places c.args.who c.if-who-ge-PLACES.false) (fails_here _ _ _ (ap not (not_in l asleep c.if-named-ne-ASLEEP.true)));
+  shaped = tt;
 }
 
 pub returns-then-up-eq0 : goal.returns-then-up-eq0
 returns-then-up-eq0 c = record {
-  fact_1 = λ m kind a b j on l. (
-    passes_here _ _ _ 10 (lt-leb task_places c.args.who c.if-who-ge-PLACES.false)
-        (passes_here _ _ _ 10 (ap not (is_in l asleep c.if-named-ne-ASLEEP.false))
-        (fails_here _ _ _ (tested_up m (ap (λ (x : Task). x.mask) l.columns) on c.if-up-eq0.true))),
-    suc-ne-zero 9,
-  );
-  fact_2 = tt;
+  decided = λ m kind a b j on l. passes_here _ _ _ 10 (lt-leb task_places c.args.who c.if-who-ge-PLACES.false)
+      (passes_here _ _ _ 10 (ap not (is_in l asleep c.if-named-ne-ASLEEP.false))
+      (fails_here _ _ _ (tested_up m (ap (λ (x : Task). x.mask) l.columns) on c.if-up-eq0.true)));
+  shaped = tt;
 }
 
 pub wake_cpu-target-requires : goal.wake_cpu-target-requires
@@ -45,7 +41,7 @@ wake_cpu-target-requires c =
 
 pub returns : goal.returns
 returns c = record {
-  fact_1 = λ m kind a b j on l.
+  decided = λ m kind a b j on l.
       let t = c.args.who in
       let s = c.if-named-ne-ASLEEP.false in
       let some = tested_some m (ap (λ (x : Task). x.mask) l.columns) on c.if-up-eq0.false in (
@@ -55,5 +51,5 @@ returns c = record {
             ∙ ap (λ (σ : Task). enter t (with_state runnable σ) (wake_cpu m t)) l.columns)
             (wakes l c.if-who-ge-PLACES.false s some),
       );
-  fact_2 = (_, c.enter.ensures);
+  shaped = (_, c.enter.ensures);
 }

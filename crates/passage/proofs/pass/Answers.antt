@@ -1,16 +1,15 @@
 -- `passage::pass` meets its contract.
 -- Assumes nothing.
-use borrow.Author.Tests.{not-true, not-false}
-use mathlib.Core.Path.{refl}
-use Rattle.cpupri.specs.Record.{lent_record}
-use Rattle.levels.specs.Record.{lent_record}
+use mathlib.Core.Path.{◌≡◌, refl}
+use Prim.Native.Nat.{◌-◌, ◌<◌}
+use Rattle.std.specs.Prelude.{Some, None}
 use Rattle.lenttables.specs.Lent.{lent}
-use Rattle.recording.specs.Reading.{most_events, reading, ends}
+use Rattle.recording.specs.declared.Ending.{Ending}
+use Rattle.recording.specs.Reading.{Reading, most_events, reading, ends}
 use Rattle.recording.specs.Replay.{Run}
-use Rattle.playing.proofs.Readiness.{ready_less}
-use Rattle.passage.proofs.Going.{Lengths, going_start, going_on, going_nearer, gone, all_run, ready_lengths}
+use Rattle.passage.proofs.Going.{Same, Going, ready_batch, going_start, going_on, going_nearer, gone, all_run}
 use Rattle.passage.proofs.pass.Invariants.{built}
-use Rattle.passage.proofs.pass.Goals.{After-run_buf-course, At-loop-course, Start}
+use Rattle.passage.proofs.pass.Goals.{After-run-course, At-loop-ending, Start}
 use Rattle.passage.proofs.pass.Goals as goal
 
 -- the run that the caller lent
@@ -18,70 +17,77 @@ module _ (c : Start) where
   abbrev begin : Run
   begin =
       let x = c.args in
-      built (lent_record x.masks.now x.tallies.now x.words.now x.levels.now)
-      (lent x.t.full x.state.now x.policy.now x.prio.now x.cpu.now x.slice.now x.mask.now x.rows.now x.counts.now x.flags.now x.online.now x.log.now) x.times.now x.t
-
-  lengths : Lengths c.args.n begin.tables
-  lengths = ready_lengths c.args.n most_events begin c.requires
+      built x.«record».now
+      (lent x.t.full x.state.now x.policy.now x.prio.now x.cpu.now x.slice.now x.mask.now x.rows.now x.counts.now x.flags.now x.online.now x.log.now)
+      x.times.now x.t
 
 -- the run that a batch finds
-module _ (c : At-loop-course) where
+module _ (c : At-loop-ending) where
   abbrev here : Run
   here =
-      let l = c.loop-course in
-      built (lent_record l.masks l.tallies l.words l.levels)
-      (lent l.course.full l.state l.policy l.prio l.cpu l.slice l.mask l.rows l.counts l.flags l.online l.log) l.times l.course
-
-  lengths_here : Lengths c.args.n here.tables
-  lengths_here = ready_lengths c.args.n c.loop-course.room here c.loop-course.invariant.ready
+      let l = c.loop-ending in
+      built l.«record» (lent l.course.full l.state l.policy l.prio l.cpu l.slice l.mask l.rows l.counts l.flags l.online l.log) l.times l.course
 
 -- the run that it leaves
-module _ (c : After-run_buf-course) where
+module _ (c : After-run-course) where
   abbrev left : Run
   left =
       let k = c in
-      let o = k.run_buf-course.new in
-      let u = k.run_buf-course.result in
-      built (lent_record o.masks o.tallies o.words o.levels)
-      (lent u.full o.state o.policy o.prio o.cpu o.slice o.mask o.rows o.counts o.flags o.online o.log) o.times u
+      let o = k.run-course.new in
+      let u = k.run-course.result in
+      built o.«record» (lent u.full o.state o.policy o.prio o.cpu o.slice o.mask o.rows o.counts o.flags o.online o.log) o.times u
 
-pub loop-course-init : goal.loop-course-init
-loop-course-init c = going_start c.args.n most_events c.args.from c.args.bytes.now (begin (goal.at.loop-course-init c).Start) c.requires
+  abbrev all : Reading
+  all = reading c.args.from c.args.bytes.now
 
-pub run_buf-course-requires : goal.run_buf-course-requires
-run_buf-course-requires c =
+  abbrev first : Run
+  first = begin (goal.at.After-run-course c).Start
+
+  abbrev found : Run
+  found = here (goal.at.After-run-course c).At-loop-ending
+
+  further : c.fill-read.result.ending ≡ None
+      → let k = c in let b = k.fill-read.result in Going k.args.n k.args.bytes.now all first (k.loop-ending.room - b.count) b.place left
+  further =
+      let k = c in
+      let l = k.loop-ending in
+      going_on k.args.n k.args.bytes.now all first l.room l.place found left k.fill-read.result l.invariant k.fill-read.ensures k.run-course.ensures
+
+  nearer : c.fill-read.result.ending ≡ None → c.loop-ending.room - c.fill-read.result.count < c.loop-ending.room
+  nearer =
+      let k = c in
+      let l = k.loop-ending in
+      going_nearer k.args.n k.args.bytes.now all first l.room l.place found left k.fill-read.result l.invariant k.fill-read.ensures
+      k.run-course.ensures
+
+  ended : (x : Ending) → c.fill-read.result.ending ≡ Some x → Same c.args.n all first (ends x c.fill-read.result.place) left
+  ended =
+      let k = c in
+      let l = k.loop-ending in
+      gone k.args.n k.args.bytes.now all first l.room l.place found left k.fill-read.result l.invariant k.fill-read.ensures k.run-course.ensures
+
+pub loop-ending-init : goal.loop-ending-init
+loop-ending-init c =
+    going_start c.args.n most_events c.args.from c.args.bytes.now (begin (goal.at.loop-ending-init c).Start) c.requires
+
+pub run-course-requires : goal.run-course-requires
+run-course-requires c =
     let x = c.args in
-    let l = c.loop-course in
-    let u = here (goal.at.run_buf-course-requires c).At-loop-course in
-    (c.fill-read.ensures.few, ready_less x.n c.fill-read.result.count l.room u c.fill-read.ensures.fit l.invariant.ready)
+    let l = c.loop-ending in
+    ready_batch x.n l.room l.place x.bytes.now c.fill-read.result (here (goal.at.run-course-requires c).At-loop-ending) c.fill-read.ensures
+    l.invariant.ready
 
-pub returns-then-not-read : goal.returns-then-not-read
-returns-then-not-read c =
-    let x = c.args in
-    let l = c.loop-course in
-    let b = c.fill-read.result in
-    let x₀ = reading x.from x.bytes.now in
-    let v = left (goal.at.returns-then-not-read c).After-run_buf-course in
-    let s =
-    gone x.n x.bytes.now x₀ (begin (goal.at.returns-then-not-read c).Start) l.room l.place (here (goal.at.returns-then-not-read c).At-loop-course) v b l.invariant c.fill-read.ensures c.run_buf-course.ensures
-    (not-true c.fill-read.result.more c.if-not-read.true) in record {
-      fact_1 = all_run x.n x₀ (begin (goal.at.returns-then-not-read c).Start) v (ends b.ending b.place) refl s;
-      fact_2 = s.ending;
-      fact_3 = s.place;
+pub returns-in-Some : goal.returns-in-Some
+returns-in-Some c =
+    let k = (goal.at.returns-in-Some c).After-run-course in
+    let s = ended k c.in-Some.ending c.in-Some.is in record {
+      replays = all_run c.args.n (all k) (first k) (left k) (ends c.in-Some.ending c.fill-read.result.place) refl s;
+      ending_is = s.ending;
+      place_is = s.place;
     }
 
-pub loop-course-smaller : goal.loop-course-smaller
-loop-course-smaller c =
-    let x = c.args in
-    let l = c.loop-course in
-    let b = c.fill-read.result in
-    going_nearer x.n x.bytes.now (reading x.from x.bytes.now) (begin (goal.at.loop-course-smaller c).Start) l.room l.place (here (goal.at.loop-course-smaller c).At-loop-course) (left (goal.at.loop-course-smaller c).After-run_buf-course) b
-    l.invariant c.fill-read.ensures c.run_buf-course.ensures (not-false c.fill-read.result.more c.if-not-read.false)
+pub loop-ending-smaller : goal.loop-ending-smaller
+loop-ending-smaller c = nearer (goal.at.loop-ending-smaller c).After-run-course c.in-None.is
 
-pub loop-course-preserved : goal.loop-course-preserved
-loop-course-preserved c =
-    let x = c.args in
-    let l = c.loop-course in
-    let b = c.fill-read.result in
-    going_on x.n x.bytes.now (reading x.from x.bytes.now) (begin (goal.at.loop-course-preserved c).Start) l.room l.place (here (goal.at.loop-course-preserved c).At-loop-course) (left (goal.at.loop-course-preserved c).After-run_buf-course) b
-    l.invariant c.fill-read.ensures c.run_buf-course.ensures (not-false c.fill-read.result.more c.if-not-read.false)
+pub loop-ending-preserved : goal.loop-ending-preserved
+loop-ending-preserved c = further (goal.at.loop-ending-preserved c).After-run-course c.in-None.is

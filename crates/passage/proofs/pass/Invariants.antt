@@ -1,9 +1,7 @@
--- `passage::pass` meets its contract.
+-- The loop of `passage::pass`: what is left to read, on the machine now, comes to what all comes to on the machine at the start.
 -- Assumes nothing.
 use mathlib.Core.List.{List}
 use Prim.Native.Nat.{ℕ}
-use Rattle.cpupri.specs.Record.{lent_record}
-use Rattle.levels.specs.Record.{lent_record}
 use Rattle.levels.specs.declared.record.Record.{Record}
 use Rattle.lenttables.specs.Lent.{lent}
 use Rattle.rules.specs.Tables.{Tables}
@@ -17,11 +15,14 @@ use Rattle.passage.proofs.pass.Given as goal
 abbrev pub built : Record → Tables → List ℕ → Course → Run
 built r s ts t = run r s ts t.moves t.refused t.last
 
-abbrev pub invariant-loop-course : goal.invariant-loop-course
-invariant-loop-course l =
-    Going l.n l.bytes (reading l.from l.bytes) (built (lent_record l.initial.masks l.initial.tallies l.initial.words l.initial.levels) (lent l.initial.course.full l.initial.state l.initial.policy l.initial.prio l.initial.cpu l.initial.slice l.initial.mask l.initial.rows l.initial.counts l.initial.flags l.initial.online l.initial.log) l.initial.times l.initial.course) l.room l.place
-    (built (lent_record l.masks l.tallies l.words l.levels) (lent l.course.full l.state l.policy l.prio l.cpu l.slice l.mask l.rows l.counts l.flags l.online l.log) l.times l.course)
+abbrev pub invariant-loop-ending : goal.invariant-loop-ending
+invariant-loop-ending l =
+    let o = l.initial in
+    let first = built o.«record»
+    (lent o.course.full o.state o.policy o.prio o.cpu o.slice o.mask o.rows o.counts o.flags o.online o.log) o.times o.course in
+    let now = built l.«record»
+    (lent l.course.full l.state l.policy l.prio l.cpu l.slice l.mask l.rows l.counts l.flags l.online l.log) l.times l.course in
+    Going l.n l.bytes (reading l.from l.bytes) first l.room l.place now
 
-abbrev pub decreases-loop-course : goal.decreases-loop-course
-decreases-loop-course l =
-    l.room
+abbrev pub decreases-loop-ending : goal.decreases-loop-ending
+decreases-loop-ending l = l.room

@@ -62,7 +62,7 @@ module _ {ps ks flat : List ℕ} {r : Record} {t c : ℕ} (m : Machine) (l : Ent
 -- ---- the needs
 pub enqueue-requires : goal.enqueue-requires
 enqueue-requires c =
-    let all = can_enter c.requires.fact.0 c.requires.fact.1 in record {
+    let all = can_enter c.requires.entering.0 c.requires.entering.1 in record {
       holds_rows = all.0;
       cpu_in_bounds = all.1.0;
       task_lt_task_places = all.1.1.0;
@@ -73,21 +73,21 @@ enqueue-requires c =
 
 pub first_level-level-requires : goal.first_level-level-requires
 first_level-level-requires c =
-    let m = c.requires.fact.0 in
-    let l = c.requires.fact.1 in
+    let m = c.requires.entering.0 in
+    let l = c.requires.entering.1 in
     let h = has_entered m l false c.enqueue.ensures.rows_are c.enqueue.ensures.counts_are in
     let first = first_ok m l h in
     let f = rows_fit _ _ (holds (entered m l) _ _ _ _ h) c.args.cpu (here m l h) in record {
-      task_places_in_bounds = omega arith;
+      cpu_has_row = omega arith;
       prio_len = ap length l.held.prio ∙ l.held.order.prios;
-      task_places_bound = first.0;
-      task_places_bound_2 = first.1;
+      first_is_task = first.0;
+      first_priority = first.1;
     }
 
 pub set_level-requires : goal.set_level-requires
 set_level-requires c =
-    let m = c.requires.fact.0 in
-    let l = c.requires.fact.1 in
+    let m = c.requires.entering.0 in
+    let l = c.requires.entering.1 in
     let h = has_entered m l false c.enqueue.ensures.rows_are c.enqueue.ensures.counts_are in record {
       whole = whole m _ _ _ _ l.held;
       cpu_lt_cpu_places = omega (arith, l.held.order.cpus, l.cpu);
@@ -97,7 +97,7 @@ set_level-requires c =
 pub returns : goal.returns
 returns c =
     record {
-      fact_1 = λ m l.
+      held = λ m l.
           let h = has_entered m l false c.enqueue.ensures.rows_are c.enqueue.ensures.counts_are in
           record {
             order = h.order;
@@ -106,5 +106,5 @@ returns c =
             rows = h.rows;
             levels = c.set_level.ensures ∙ ap record_of (levels_after m l h c.first_level-level.ensures);
           };
-      fact_2 = refl;
+      cpus_set = refl;
     }

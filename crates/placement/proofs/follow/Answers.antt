@@ -15,15 +15,15 @@ cpu_level-level-requires c =
     let l = c.requires.following.1 in
     let h = l.queues in record {
       holds_rows = holds m _ _ _ _ h;
-      cpu_in_bounds = omega (arith, cpus_counted m _ _ _ _ h, l.cpu);
-      cpu_in_bounds_2 = omega (arith, ap length l.flags, l.flag_count, l.cpu);
+      cpu_has_row = omega (arith, cpus_counted m _ _ _ _ h, l.cpu);
+      cpu_has_flag = omega (arith, ap length l.flags, l.flag_count, l.cpu);
       prio_len = ap length l.prio ∙ h.order.prios;
-      by_index = tasks_read l;
-      cpu_bound = flag_read l;
+      tasks = tasks_read l;
+      flag_bound = flag_read l;
     }
 
-pub returns-then-level-levels : goal.returns-then-level-levels
-returns-then-level-levels c = λ m l. unmoved l c.requires.whole (level_read l c.cpu_level-level.ensures) c.if-level-levels.true
+pub returns-then-level-record : goal.returns-then-level-record
+returns-then-level-record c = λ m l. unmoved l c.requires.whole (level_read l c.cpu_level-level.ensures) c.if-level-record.true
 
 pub set_level-requires : goal.set_level-requires
 set_level-requires c =
@@ -36,4 +36,4 @@ set_level-requires c =
 pub returns : goal.returns
 returns c =
     λ m l.
-    c.set_level.ensures ∙ ap (λ (v : ℕ). record_of (set c.args.levels.now c.args.cpu v)) (level_read l c.cpu_level-level.ensures)
+    c.set_level.ensures ∙ ap (λ (v : ℕ). record_of (set c.args.«record».now.levels c.args.cpu v)) (level_read l c.cpu_level-level.ensures)

@@ -6,7 +6,7 @@ use mathlib.Core.Option.{Option}
 use Prim.Native.Nat.{◌*◌, ◌<◌}
 use native.Mathlib.Omega.{arith}
 use lib.ListN.{length}
-use borrow.Author.Tests.{ne_eqb, eq-eqb, lt-ltb, le-ltb}
+use borrow.Author.Tests.{ne_eqb, eq-eqb}
 use Rattle.laws.specs.Limited.{or_nothing}
 use Rattle.laws.proofs.Apart.{in_row}
 use Rattle.carrying.proofs.Placing.{leaves, enters, whole, follows_origin}
@@ -22,8 +22,8 @@ module _ (c : Start) where
       let l = c.requires.1.1.0 in
       (omega (arith, rows_long (reading l), l.ready.leaves.0), omega (arith, l.ready.leaves.0, l.formed.shape.cpus))
 
-pub leave_if-requires : goal.leave_if-requires
-leave_if-requires c = let l = c.requires.1.1.0 in (_, leaves (own l))
+pub leave-requires : goal.leave-requires
+leave-requires c = let l = c.requires.1.1.0 in (_, leaves (own l))
 
 pub returns-then-not-ran : goal.returns-then-not-ran
 returns-then-not-ran c =
@@ -31,37 +31,23 @@ returns-then-not-ran c =
     let t = c.args.task in
     let d = c.args.origin in
     let h = l.ready.leaves in
-    let o = c.leave_if.ensures _ (leaves (own l)) in
+    let o = c.leave.ensures _ (leaves (own l)) in
     let e = (enters (own l) o l.prio).queues in
     let no = c.if-not-ran.true in
     moved l o e refl
     (level_kept l d h.0
     (left_behind t τ m d (in_rows l d h.0) (λ q. no (first_is (reading l) d h.0 ∙ ap (λ (x : Option _). or_nothing x) q))))
     (unfollowed l)
-    (few_since l d h.0 (in_row m t d l.formed h.1).1 (reading_now l o e refl) false _ (ne_eqb _ t no) refl
+    (few_since l d h.0 (in_row m t d l.formed h.1).1 (reading_now l o e refl) false (ne_eqb _ t no) refl
     (new_away (reading_now l o e refl) (state_after l) t l.ready.task d false (λ z. s (sym (state_is l) ∙ z))))
 
-pub follow_if-requires : goal.follow_if-requires
-follow_if-requires c =
+pub follow-requires : goal.follow-requires
+follow-requires c =
     let l = c.requires.1.1.0 in
-    let o = c.leave_if.ensures _ (leaves (own l)) in record {
-      following_if = (_, follows_origin (own l) o l.prio (enters (own l) o l.prio).queues);
+    let o = c.leave.ensures _ (leaves (own l)) in record {
+      following = (_, (follows_origin (own l) o l.prio (enters (own l) o l.prio).queues).may);
       whole = whole (own l);
     }
-
-pub returns-then-levels-origin : goal.returns-then-levels-origin
-returns-then-levels-origin c =
-    λ m τ l s.
-    let t = c.args.task in
-    let d = c.args.origin in
-    let h = l.ready.leaves in
-    let o = c.leave_if.ensures _ (leaves (own l)) in
-    let e = (enters (own l) o l.prio).queues in
-    let q = c.follow_if.ensures _ (follows_origin (own l) o l.prio e) in
-    let a = reading_after l o e refl q (after_own _ q) in
-    moved l o e refl q (after_own _ q)
-    (few_since l d h.0 (in_row m t d l.formed h.1).1 a true true (eq-eqb _ t c.if-not-ran.false) (lt-ltb _ _ c.if-levels-origin.true)
-    (new_away (unlevelled a) (state_after l) t l.ready.task d true (λ z. s (sym (state_is l) ∙ z))))
 
 pub returns : goal.returns
 returns c =
@@ -69,12 +55,12 @@ returns c =
     let t = c.args.task in
     let d = c.args.origin in
     let h = l.ready.leaves in
-    let o = c.leave_if.ensures _ (leaves (own l)) in
+    let o = c.leave.ensures _ (leaves (own l)) in
     let e = (enters (own l) o l.prio).queues in
-    let q = c.follow_if.ensures _ (follows_origin (own l) o l.prio e) in
+    let q = c.follow.ensures _ (follows_origin (own l) o l.prio e).may in
     let a = reading_after l o e refl q (after_own _ q) in
     moved l o e refl q (after_own _ q)
-    (few_since l d h.0 (in_row m t d l.formed h.1).1 a true false (eq-eqb _ t c.if-not-ran.false) (le-ltb _ _ c.if-levels-origin.false)
+    (few_since l d h.0 (in_row m t d l.formed h.1).1 a true (eq-eqb _ t c.if-not-ran.false) c.then_some.ensures
     (new_away (unlevelled a) (state_after l) t l.ready.task d true (λ z. s (sym (state_is l) ∙ z))))
 
 pub bounds-rows-origin : goal.bounds-rows-origin

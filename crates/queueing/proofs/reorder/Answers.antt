@@ -23,10 +23,10 @@ reorder-requires c = let all = reorderable c.requires.1.1 in record {
   reorderable = all.1.1.1.1;
 }
 
-pub follow_if-requires : goal.follow_if-requires
-follow_if-requires c =
+pub follow-requires : goal.follow-requires
+follow-requires c =
     let l = c.requires.1.1 in record {
-      following_if = (_, follows_origin (own l) (left_out l) l.prio (reordered l c.reorder.ensures.rows_are c.reorder.ensures.counts_are));
+      following = (_, (follows_origin (own l) (left_out l) l.prio (reordered l c.reorder.ensures.rows_are c.reorder.ensures.counts_are)).may);
       whole = whole (own l);
     }
 
@@ -35,7 +35,7 @@ since-requires c =
     let l = c.requires.1.1 in
     let o = left_out l in
     let e = reordered l c.reorder.ensures.rows_are c.reorder.ensures.counts_are in
-    let q = twice l (c.follow_if.ensures _ (follows_origin (own l) o l.prio e)) in (
+    let q = twice l (c.follow.ensures _ (follows_origin (own l) o l.prio e).may) in (
       carried (reorder c.args.front c.args.task c.args.home c.requires.1.0) c.requires.0,
       (
         reading_after l o e (cpu_kept l) refl q,
@@ -50,7 +50,7 @@ returns c =
     let x = c.args in
     let o = left_out l in
     let e = reordered l c.reorder.ensures.rows_are c.reorder.ensures.counts_are in
-    let q = twice l (c.follow_if.ensures _ (follows_origin (own l) o l.prio e)) in
+    let q = twice l (c.follow.ensures _ (follows_origin (own l) o l.prio e).may) in
     let is = c.standing-past.ensures m (reading l) in
     moved l o e (cpu_kept l) refl q
     (c.since.ensures (carried (reorder x.front x.task x.home τ) m) (reading_after l o e (cpu_kept l) refl q) (state_after l) (subst (Standing (carried (reorder x.front x.task x.home τ) m)) (sym is) (stands l))

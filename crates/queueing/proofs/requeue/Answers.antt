@@ -1,7 +1,7 @@
 -- `queueing::requeue` meets its contract.
 -- Assumes nothing.
 use mathlib.Core.Path.{◌≡◌, refl, sym, ap, ◌∙◌, subst}
-use mathlib.Core.Bool.{true, false}
+use mathlib.Core.Bool.{Bool, true, false}
 use mathlib.Core.List.{List, [], ◌∷◌}
 use mathlib.Core.Option.{Option, some}
 use Prim.Native.Nat.{ℕ, ◌*◌, ◌<◌}
@@ -11,7 +11,7 @@ use lib.ListN.{length, get_or}
 use borrow.Author.Tests.{eq-eqb, le-ltb}
 use Rattle.levels.specs.declared.record.Record.{Record}
 use Rattle.rules.specs.Lists.{Falling}
-use Rattle.rules.specs.Machine.{Machine, Task, prio_of, row, head, level, levels, task_places, cpu_places}
+use Rattle.rules.specs.Machine.{Machine, Task, prio_of, row, head, level, levels, task_places}
 use Rattle.rules.specs.Plan.{carried, reorder}
 use Rattle.laws.specs.Limited.{or_nothing}
 use Rattle.laws.proofs.Apart.{in_row}
@@ -20,9 +20,12 @@ use Rattle.laws.proofs.Record.{levels_below}
 use Rattle.placement.specs.Held.{Queues}
 use Rattle.placement.proofs.Order.{well_formed_order}
 use Rattle.carrying.proofs.Placing.{cpus_kept}
-use Rattle.hinting.specs.Hinted.{candidates}
+use Rattle.std.specs.Prelude as code
+use Rattle.std.specs.Prelude.{None}
+use Rattle.std.specs.Bool.{then_some}
+use Rattle.hinting.specs.Hinted.{coded}
 use Rattle.hinting.specs.Past.{Reading, new_since}
-use Rattle.hinting.proofs.Lent.{rows_long, first_is, level_is, new_waits, new_stays}
+use Rattle.hinting.proofs.Lent.{seen, rows_long, first_is, level_is, new_waits, new_stays}
 use Rattle.queueing.specs.Moved.{Moving, Running, Moved}
 use Rattle.queueing.proofs.First.{requeued_level}
 use Rattle.queueing.proofs.Going.{own, reading, twice, level_kept, state_is, state_after, reading_now, in_rows, few_since, moved, left_out, reorderable, reordered, cpu_home, cpu_kept}
@@ -43,12 +46,12 @@ module _ {m : Machine} {t c : ℕ} {τ : Task} {ss qs cs flat ns fs flat' : List
   reading_then = reading_now k (left_out k) e (cpu_kept k)
 
   -- its level stayed, so that no CPU fell
-  requeued : Running m t c τ → {new : ℕ} → new ≡ new_since t c true (carried (reorder false t c τ) m) → Moved (candidates cpu_places new) m (reorder false t c τ) cs flat' ns r
+  requeued : Running m t c τ → {new : code.Option ℕ} → new ≡ coded (new_since t c true (carried (reorder false t c τ) m)) → Moved (seen None new) m (reorder false t c τ) cs flat' ns r
   requeued s is =
       moved k (left_out k) e (cpu_kept k) refl (twice k (level_kept k c here same))
-      (few_since k c here (in_row m t c k.formed k.ready.leaves.1).1 reading_then true false
+      (few_since k c here (in_row m t c k.formed k.ready.leaves.1).1 reading_then true
       (eq-eqb _ t (first_is (reading k) c here ∙ ap (λ (x : Option ℕ). or_nothing x) s.first))
-      (not_below (level_is (reading k) c here ∙ sym same ∙ sym (levels_below (carried (reorder false t c τ) m) c (subst (λ (n : ℕ). c < n) (sym (cpus_kept (own k))) here))))
+      (sym (ap (λ (b : Bool). then_some b c) (not_below (level_is (reading k) c here ∙ sym same ∙ sym (levels_below (carried (reorder false t c τ) m) c (subst (λ (n : ℕ). c < n) (sym (cpus_kept (own k))) here))))))
       is)
     where
       here : c < m.n

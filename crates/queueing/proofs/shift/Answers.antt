@@ -16,45 +16,45 @@ standing-past-requires c = let l = c.requires.1.1 in record {
   reading = (_, reading l);
 }
 
-pub leave_if-requires : goal.leave_if-requires
-leave_if-requires c = let l = c.requires.1.1 in (_, leaves (own l))
+pub leave-requires : goal.leave-requires
+leave-requires c = let l = c.requires.1.1 in (_, leaves (own l))
 
-pub enter_if-requires : goal.enter_if-requires
-enter_if-requires c =
+pub enter-requires : goal.enter-requires
+enter-requires c =
     let l = c.requires.1.1 in record {
-      entering_if = (_, enters (own l) (c.leave_if.ensures _ (leaves (own l))) l.prio);
+      entering = (_, enters (own l) (c.leave.ensures _ (leaves (own l))) l.prio);
       cpus_len = cpus_long l;
     }
 
-pub follow_if-requires : goal.follow_if-requires
-follow_if-requires c =
+pub follow-requires : goal.follow-requires
+follow-requires c =
     let l = c.requires.1.1 in
-    let o = c.leave_if.ensures _ (leaves (own l)) in
-    let e = c.enter_if.ensures.fact_1 _ (enters (own l) o l.prio) in record {
-      following_if = (_, follows_origin (own l) o l.prio e);
+    let o = c.leave.ensures _ (leaves (own l)) in
+    let e = c.enter.ensures.queues _ (enters (own l) o l.prio) in record {
+      following = (_, (follows_origin (own l) o l.prio e).may);
       whole = whole (own l);
     }
 
-pub follow_if-requires-2 : goal.follow_if-requires-2
-follow_if-requires-2 c =
+pub follow-requires-2 : goal.follow-requires-2
+follow-requires-2 c =
     let l = c.requires.1.1 in
-    let o = c.leave_if.ensures _ (leaves (own l)) in
-    let e = c.enter_if.ensures.fact_1 _ (enters (own l) o l.prio) in
+    let o = c.leave.ensures _ (leaves (own l)) in
+    let e = c.enter.ensures.queues _ (enters (own l) o l.prio) in
     let f = follows_origin (own l) o l.prio e in record {
-      following_if = (_, follows_target (own l) o l.prio e);
-      whole = subst Whole (sym (c.follow_if.ensures _ f)) (still_whole_if f (whole (own l)));
+      following = (_, (follows_target (own l) o l.prio e).may);
+      whole = subst Whole (sym (c.follow.ensures _ f.may)) (still_whole_if f (whole (own l)));
     }
 
 pub since-requires : goal.since-requires
 since-requires c =
     let l = c.requires.1.1 in
-    let o = c.leave_if.ensures _ (leaves (own l)) in
-    let e = c.enter_if.ensures.fact_1 _ (enters (own l) o l.prio) in
-    let r = c.follow_if.ensures _ (follows_origin (own l) o l.prio e) in
-    let q = c.follow_if-2.ensures _ (follows_target (own l) o l.prio e) in (
+    let o = c.leave.ensures _ (leaves (own l)) in
+    let e = c.enter.ensures.queues _ (enters (own l) o l.prio) in
+    let r = c.follow.ensures _ (follows_origin (own l) o l.prio e).may in
+    let q = c.follow-2.ensures _ (follows_target (own l) o l.prio e).may in (
       carried (shift c.args.task c.args.origin c.requires.1.0 c.args.target) c.requires.0,
       (
-        reading_after l o e c.enter_if.ensures.fact_2 r q,
+        reading_after l o e c.enter.ensures.cpus_set r q,
         state_after l,
         subst (Standing (carried (shift c.args.task c.args.origin c.requires.1.0 c.args.target) c.requires.0)) (sym (c.standing-past.ensures _ (reading l))) (stands l),
       ),
@@ -64,11 +64,11 @@ pub returns : goal.returns
 returns c =
     λ m τ l.
     let x = c.args in
-    let o = c.leave_if.ensures _ (leaves (own l)) in
-    let e = c.enter_if.ensures.fact_1 _ (enters (own l) o l.prio) in
-    let r = c.follow_if.ensures _ (follows_origin (own l) o l.prio e) in
-    let q = c.follow_if-2.ensures _ (follows_target (own l) o l.prio e) in
+    let o = c.leave.ensures _ (leaves (own l)) in
+    let e = c.enter.ensures.queues _ (enters (own l) o l.prio) in
+    let r = c.follow.ensures _ (follows_origin (own l) o l.prio e).may in
+    let q = c.follow-2.ensures _ (follows_target (own l) o l.prio e).may in
     let is = c.standing-past.ensures m (reading l) in
-    moved l o e c.enter_if.ensures.fact_2 r q
-    (c.since.ensures (carried (shift x.task x.origin τ x.target) m) (reading_after l o e c.enter_if.ensures.fact_2 r q) (state_after l) (subst (Standing (carried (shift x.task x.origin τ x.target) m)) (sym is) (stands l))
+    moved l o e c.enter.ensures.cpus_set r q
+    (c.since.ensures (carried (shift x.task x.origin τ x.target) m) (reading_after l o e c.enter.ensures.cpus_set r q) (state_after l) (subst (Standing (carried (shift x.task x.origin τ x.target) m)) (sym is) (stands l))
     ∙ ap (λ (s : Past). candidates_since s (carried (shift x.task x.origin τ x.target) m)) is)

@@ -7,7 +7,7 @@ pub returns-then-count-le-NEAR : goal.returns-then-count-le-NEAR
 returns-then-count-le-NEAR c = lower_end
 
 pub ends_at-requires : goal.ends_at-requires
-ends_at-requires c = ordered_first c.requires _ (omega arith)
+ends_at-requires c = record { ordered = c.requires; at_in_row = omega arith }
 
 pub returns-then-ends_at : goal.returns-then-ends_at
 returns-then-ends_at c = lower_end

@@ -1,29 +1,30 @@
 -- `ranking::far_position` meets its contract. The loop's invariant: the task does not stand earlier. Assumes nothing.
 use Prim.Native.Nat.{◌<◌}
 use native.Mathlib.Omega.{arith}
-use lib.ListN.{length, take}
+use lib.ListN.{length}
 use Rattle.rules.specs.Lists.{place}
-use Rattle.ranking.proofs.Held.{row_size, place_below, stands_here, stands_later}
+use Rattle.laws.proofs.Order.{place_lt}
+use Rattle.ranking.proofs.Held.{stands_here, stands_later}
 use Rattle.ranking.proofs.far_position.Goals.{In-loop-at, Start}
 use Rattle.ranking.proofs.far_position.Goals as goal
 
 -- the place is within the row
-within : (c : Start) → place c.args.task (take c.args.count c.args.row.now) < length c.args.row.now
+within : (c : Start) → place c.args.task c.args.row.now < length c.args.row.now
 within c =
     let a = c.args in
-    omega (arith, c.requires.holds_row.most, row_size a.count a.row.now c.requires.holds_row, place_below a.count a.row.now c.requires.holds_row a.task c.requires.fact)
+    place_lt a.task a.row.now c.requires.stands
 
 -- the task is not at this place, so it stands later
-later : (c : In-loop-at) → let k = c in k.loop-at.at < place k.args.task (take k.args.count k.args.row.now)
+later : (c : In-loop-at) → let k = c in k.loop-at.at < place k.args.task k.args.row.now
 later c =
     let k = c in
     let a = k.args in
-    stands_later a.count a.row.now k.requires.holds_row a.task k.requires.fact k.loop-at.at k.loop-at.invariant k.loop-at-test.true
+    stands_later a.row.now a.task k.requires.stands k.loop-at.at k.loop-at.invariant k.loop-at-test.true
 
 pub first_block-at-requires : goal.first_block-at-requires
 first_block-at-requires c = record {
-  holds_row = c.requires.holds_row;
-  fact = c.requires.fact;
+  row_len = c.requires.row_len;
+  stands = c.requires.stands;
 }
 
 pub loop-at-init : goal.loop-at-init
@@ -38,7 +39,7 @@ loop-at-preserved c = omega (arith, later c)
 pub returns : goal.returns
 returns c =
     let a = c.args in
-    stands_here a.count a.row.now c.requires.holds_row a.task c.requires.fact c.loop-at.at c.loop-at.invariant c.loop-at-test.false
+    stands_here a.row.now a.task c.requires.stands c.loop-at.at c.loop-at.invariant c.loop-at-test.false
 
 pub offset_bounds-row-at : goal.offset_bounds-row-at
 offset_bounds-row-at c = omega (arith, within (goal.at.offset_bounds-row-at c).Start, c.loop-at.invariant)

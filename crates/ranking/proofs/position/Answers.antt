@@ -3,24 +3,24 @@ use mathlib.Core.Path.{◌≡◌}
 use mathlib.Core.Logic.{◌≢◌}
 use Prim.Native.Nat.{ℕ, ◌≤◌, ◌<◌, zero-le}
 use native.Mathlib.Omega.{arith}
-use lib.ListN.{length, get_or, take}
+use lib.ListN.{length, get_or}
 use Rattle.rules.specs.Lists.{place}
-use Rattle.ranking.proofs.Held.{row_size, stands_here, stands_later}
+use Rattle.ranking.proofs.Held.{stands_here, stands_later}
 use Rattle.ranking.proofs.position.Goals.{Else-row-task, Else-row-task-2, Else-row-task-3, Else-row-task-4, Else-row-task-5, Start}
 use Rattle.ranking.proofs.position.Goals as goal
 
 module _ (c : Start) where
   abbrev stands : ℕ
-  stands = place c.args.task (take c.args.count c.args.row.now)
+  stands = place c.args.task c.args.row.now
 
   size : length c.args.row.now ≡ 512
-  size = row_size c.args.count c.args.row.now c.requires.holds_row
+  size = c.requires.row_len
 
   here : (at : ℕ) → at ≤ stands → get_or c.args.row.now at 0 ≡ c.args.task → at ≡ stands
-  here = stands_here c.args.count c.args.row.now c.requires.holds_row c.args.task c.requires.fact
+  here = stands_here c.args.row.now c.args.task c.requires.stands
 
   later : (at : ℕ) → at ≤ stands → get_or c.args.row.now at 0 ≢ c.args.task → at < stands
-  later = stands_later c.args.count c.args.row.now c.requires.holds_row c.args.task c.requires.fact
+  later = stands_later c.args.row.now c.args.task c.requires.stands
 
 past-1 : (c : Else-row-task) → 1 ≤ stands (goal.at.Else-row-task c).Start
 past-1 c = let k = c in later (goal.at.Else-row-task k).Start 0 zero-le k.if-row-task.false
@@ -57,8 +57,8 @@ returns-then-row-task-6 c = here (goal.at.returns-then-row-task-6 c).Start 5 (pa
 
 pub far_position-requires : goal.far_position-requires
 far_position-requires c = record {
-  holds_row = c.requires.holds_row;
-  fact = c.requires.fact;
+  row_len = c.requires.row_len;
+  stands = c.requires.stands;
 }
 
 pub returns : goal.returns

@@ -5,11 +5,11 @@ use Rattle.ranking.proofs.Below.{ordered_first, not_ended, rank_is, lower_end, l
 use Rattle.ranking.proofs.rank.Goals.{Start}
 use Rattle.ranking.proofs.rank.Goals as goal
 
-ordered : (c : Start) → Ordered c.args.prio.now c.args.row.now c.args.count
+ordered : (c : Start) → Ordered c.args.prio.now c.args.row.now
 ordered c = c.requires
 
 pub ends_at-requires : goal.ends_at-requires
-ends_at-requires c = ordered (goal.at.ends_at-requires c).Start
+ends_at-requires c = record { ordered = c.requires; at_in_row = omega arith }
 
 pub returns-then-ends_at : goal.returns-then-ends_at
 returns-then-ends_at c = rank_is (ordered (goal.at.returns-then-ends_at c).Start) c.ends_at.ensures c.if-ends_at.true lower_end
@@ -22,7 +22,7 @@ loop-at-init c =
     lower_both c.bound-at.ensures (not_ended (ordered (goal.at.loop-at-init c).Start) c.ends_at.ensures c.if-ends_at.false _ (omega arith) (omega arith))
 
 pub ends_at-requires-in-loop-at : goal.ends_at-requires-in-loop-at
-ends_at-requires-in-loop-at c = ordered_first (ordered (goal.at.ends_at-requires-in-loop-at c).Start) _ c.loop-at.invariant.most
+ends_at-requires-in-loop-at c = record { ordered = c.requires; at_in_row = c.loop-at.invariant.most }
 
 pub loop-at-smaller : goal.loop-at-smaller
 loop-at-smaller c = omega (arith, (c.ends_at-in-loop-at.ensures.no c.loop-at-test.true).0)

@@ -3,7 +3,7 @@ use Rattle.ranking.specs.Row.{LowerFrom}
 use Rattle.ranking.proofs.rank.Given as goal
 
 abbrev pub invariant-loop-at : goal.invariant-loop-at
-invariant-loop-at l = LowerFrom l.prio l.row l.count l.key l.at
+invariant-loop-at l = LowerFrom l.prio l.row l.key l.at
 
 abbrev pub decreases-loop-at : goal.decreases-loop-at
 decreases-loop-at l = l.at

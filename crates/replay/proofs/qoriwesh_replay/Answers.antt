@@ -1,8 +1,6 @@
 -- `replay::qoriwesh_replay` meets its contract: refused by a length, or what the replay reports, told.
 -- Assumes nothing.
-use borrow.Author.Rules.{rules}
-use borrow.Author.Tests.{not-true, not-false}
-use mathlib.Core.Path.{◌≡◌, sym, ◌∙◌}
+use mathlib.Core.Path.{◌≡◌, refl, sym, ap, ◌∙◌}
 use mathlib.Core.Bool.{Bool, true, ◌&&◌}
 use lib.Dec.{eqb}
 use lib.ListN.{length}
@@ -12,9 +10,13 @@ use Rattle.levels.specs.declared.record.Record.{Record}
 use Rattle.lenttables.specs.Lent.{lent}
 use Rattle.rules.specs.Machine.{cpu_places}
 use Rattle.rules.specs.Tables.{Tables}
-use Rattle.recording.specs.Replay.{Replayed, replay}
+use Rattle.std.specs.Prelude.{Result as Answer, Ok, Err}
+use Rattle.rules.specs.declared.answer.Refusal.{Refusal}
+use Rattle.recording.specs.Replay.{Replayed, replayed}
+use Rattle.night.specs.declared.Report.{Report}
+use Rattle.night.specs.Told.{told_of}
 use Rattle.replay.proofs.Entry.{told_unfit, told_fit, record_fits_lem, times_fit, places_of}
-use Rattle.replay.proofs.qoriwesh_replay.Goals.{After-lengths_fit, After-replay-o, Else-not-lengths_fit-times, Start}
+use Rattle.replay.proofs.qoriwesh_replay.Goals.{After-lengths_fit, After-replay-replayed, Else-not-lengths_fit-times, Start}
 use Rattle.replay.proofs.qoriwesh_replay.Goals as goal
 
 -- what the caller lent
@@ -30,22 +32,28 @@ module _ (c : Start) where
 -- the test of the lengths
 module _ (c : After-lengths_fit) where
   abbrev fit : Bool
-  fit = let k = c in k.lengths_fit.result && eqb (length k.fill_u64.new.table) cpu_places
+  fit = let k = c in k.lengths_fit.result && eqb (length k.fill.new.self) cpu_places
 
 -- what the replay reports
-module _ (c : After-replay-o) where
-  abbrev reported : Replayed
-  reported =
+module _ (c : After-replay-replayed) where
+  abbrev told_by : Answer Report Refusal → Replayed
+  told_by =
       let k = c in
-      let o = k.replay-o.result in
-      let l = k.replay-o.new in
-      replay o.answer o.ending o.place o.n l.times o.moves o.refused o.«record»
-      (lent o.full l.state l.policy l.prio l.cpu l.slice l.mask l.rows l.counts l.flags l.online l.log)
+      let l = k.replay-replayed.new in
+      λ o. told_of o l.times l.«record»
+      (lent 0 l.state l.policy l.prio l.cpu l.slice l.mask l.rows l.counts l.flags l.online l.log)
 
-  spent_places : length c.replay-o.new.times ≡ cpu_places
+  -- by its variant
+  reports : (o : Answer Report Refusal) → c.replay-replayed.result ≡ o
+      → told_by o ≡ replayed c.args.bytes.now c.load.new.«record» (tables (goal.at.After-replay-replayed c).Start)
+  reports = let k = c in λ o is. ap told_by (sym is) ∙ k.replay-replayed.ensures
+
+  spent_places : length c.replay-replayed.new.times ≡ cpu_places
   spent_places =
       let k = c in
-      places_of k.args.bytes.now k.read-given.result (tables (goal.at.After-replay-o k).Start) reported k.replay-o.ensures
+      let l = k.replay-replayed.new in
+      places_of k.args.bytes.now k.load.new.«record» (tables (goal.at.After-replay-replayed k).Start) k.replay-replayed.result l.times l.«record»
+      (lent 0 l.state l.policy l.prio l.cpu l.slice l.mask l.rows l.counts l.flags l.online l.log) k.replay-replayed.ensures
 
 -- the lengths are right
 module _ (c : Else-not-lengths_fit-times) where
@@ -56,36 +64,51 @@ pub returns-then-not-lengths_fit-times : goal.returns-then-not-lengths_fit-times
 returns-then-not-lengths_fit-times c =
     let s = (goal.at.returns-then-not-lengths_fit-times c).Start in
     let f = c.lengths_fit in
-    told_unfit c.args.bytes.now (given s) (tables s) c.args.times.now c.fill_u64.new.table c.fill_u64.ensures f.result f.ensures
-    c.number.result c.number.ensures c.if-not-lengths_fit-times.true
+    told_unfit c.args.bytes.now (given s) (tables s) c.args.times.now c.fill.new.self (c.fill.ensures.after (λ y e. e)) f.result f.ensures
+    c.number-then-not-lengths_fit-times.result c.number.result c.number-then-not-lengths_fit-times.ensures c.number.ensures c.if-not-lengths_fit-times.true
 
-pub read-given-requires : goal.read-given-requires
-read-given-requires c =
-    let s = (goal.at.read-given-requires c).Start in
+pub load-requires : goal.load-requires
+load-requires c =
+    let s = (goal.at.load-requires c).Start in
     let f = c.lengths_fit in
-    record_fits_lem c.args.bytes.now (given s) (tables s) c.args.times.now c.fill_u64.new.table c.fill_u64.ensures f.result f.ensures
-    (right (goal.at.read-given-requires c).Else-not-lengths_fit-times)
+    record_fits_lem c.args.bytes.now (given s) (tables s) c.args.times.now c.fill.new.self (c.fill.ensures.after (λ y e. e)) f.result f.ensures
+    (right (goal.at.load-requires c).Else-not-lengths_fit-times)
 
-pub copy_u64-requires : goal.copy_u64-requires
-copy_u64-requires c =
-    let s = (goal.at.copy_u64-requires c).Start in
+pub copy_from_slice-requires : goal.copy_from_slice-requires
+copy_from_slice-requires c =
+    let s = (goal.at.copy_from_slice-requires c).Start in
     let f = c.lengths_fit in
-    times_fit c.args.bytes.now (given s) (tables s) c.args.times.now c.fill_u64.new.table c.fill_u64.ensures f.result f.ensures
-    (right (goal.at.copy_u64-requires c).Else-not-lengths_fit-times)
-    ∙ sym (spent_places (goal.at.copy_u64-requires c).After-replay-o)
+    times_fit c.args.bytes.now (given s) (tables s) c.args.times.now c.fill.new.self (c.fill.ensures.after (λ y e. e)) f.result f.ensures
+    (right (goal.at.copy_from_slice-requires c).Else-not-lengths_fit-times)
+    ∙ sym (spent_places (goal.at.copy_from_slice-requires c).After-replay-replayed)
 
 pub write-requires : goal.write-requires
 write-requires c =
     let s = (goal.at.write-requires c).Start in
     let f = c.lengths_fit in
-    record_fits_lem c.args.bytes.now (given s) (tables s) c.args.times.now c.fill_u64.new.table c.fill_u64.ensures f.result f.ensures
+    record_fits_lem c.args.bytes.now (given s) (tables s) c.args.times.now c.fill.new.self (c.fill.ensures.after (λ y e. e)) f.result f.ensures
     (right (goal.at.write-requires c).Else-not-lengths_fit-times)
 
-pub returns : goal.returns
-returns c =
-    let s = (goal.at.returns c).Start in
+pub returns-in-Ok : goal.returns-in-Ok
+returns-in-Ok c =
+    let s = (goal.at.returns-in-Ok c).Start in
+    let k = (goal.at.returns-in-Ok c).After-replay-replayed in
     let f = c.lengths_fit in
     let w = c.write.new in
-    told_fit c.args.bytes.now (given s) (tables s) c.args.times.now c.fill_u64.new.table c.fill_u64.ensures f.result f.ensures
-    (right (goal.at.returns c).Else-not-lengths_fit-times) c.read-given.result (lent_record w.masks w.counts w.words w.levels) (reported (goal.at.returns c).After-replay-o) c.number-2.result
-    c.copy_u64.new.to c.read-given.ensures c.replay-o.ensures c.number-2.ensures c.copy_u64.ensures c.write.ensures
+    let o : Answer Report Refusal = Ok c.in-Ok.report in
+    told_fit c.args.bytes.now (given s) (tables s) c.args.times.now c.fill.new.self (c.fill.ensures.after (λ y e. e)) f.result f.ensures
+    (right (goal.at.returns-in-Ok c).Else-not-lengths_fit-times) c.load.new.«record» (lent_record w.masks w.counts w.words w.levels)
+    (told_by k o) 0 c.number-in-Ok.result c.copy_from_slice.new.self c.load.ensures (reports k o c.in-Ok.is) refl
+    c.number-in-Ok.ensures c.copy_from_slice.ensures.after c.write.ensures
+
+pub returns-in-Err : goal.returns-in-Err
+returns-in-Err c =
+    let s = (goal.at.returns-in-Err c).Start in
+    let k = (goal.at.returns-in-Err c).After-replay-replayed in
+    let f = c.lengths_fit in
+    let w = c.write.new in
+    let o : Answer Report Refusal = Err c.in-Err.refusal in
+    told_fit c.args.bytes.now (given s) (tables s) c.args.times.now c.fill.new.self (c.fill.ensures.after (λ y e. e)) f.result f.ensures
+    (right (goal.at.returns-in-Err c).Else-not-lengths_fit-times) c.load.new.«record» (lent_record w.masks w.counts w.words w.levels)
+    (told_by k o) c.number-in-Err.result c.number.result c.copy_from_slice.new.self c.load.ensures (reports k o c.in-Err.is)
+    c.number-in-Err.ensures c.number.ensures c.copy_from_slice.ensures.after c.write.ensures

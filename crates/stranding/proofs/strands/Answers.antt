@@ -1,7 +1,7 @@
 -- `stranding::strands` meets its contract.
 -- Assumes nothing.
 use native.Mathlib.Omega.{arith}
-use Rattle.stranding.proofs.Looking.{other_kind, few, no_cpu_lem, fits, listed, looked}
+use Rattle.stranding.proofs.Looking.{other_kind, few, no_cpu_lem, fits, most, listed, looked}
 use Rattle.stranding.proofs.strands.Goals as goal
 
 pub returns-then-kind-ne-OFFLINE_KIND : goal.returns-then-kind-ne-OFFLINE_KIND
@@ -22,4 +22,4 @@ returns c =
     looked l c.args.who (omega (arith, c.if-n-cpu.false)) c.args.kind c.if-kind-ne-OFFLINE_KIND.false c.clear_bit.ensures c.any_stranded.ensures
 
 pub slice_bounds-any_stranded-end : goal.slice_bounds-any_stranded-end
-slice_bounds-any_stranded-end c = omega (arith, fits c.requires.1 c.args.who c.if-n-cpu.false)
+slice_bounds-any_stranded-end c = omega (arith, fits c.requires.1 c.args.who c.if-n-cpu.false, most c.requires.1 c.args.who c.if-n-cpu.false)

@@ -33,19 +33,17 @@ fill_more masks under level size some h filled levels is =
     ∙ under_next levels (level - 1) ∙ ap (under_at levels) before)
 
 pub loop-level-init : goal.loop-level-init
-loop-level-init c = (c.requires.0, omega arith, omega arith, λ levels is. first c.args.under.now levels c.requires.1)
+loop-level-init c = (c.requires.0, λ levels is. first c.args.under.now levels c.requires.1)
 
 pub loop-level-preserved : goal.loop-level-preserved
 loop-level-preserved c =
     let l = c.loop-level in
     let ms = c.args.masks.now in (
       length-set l.under l.level (next_word ms l.under l.level) ∙ l.invariant.0,
-      omega arith,
-      omega arith,
-      fill_more ms l.under l.level l.invariant.0 l.invariant.1 (omega arith) l.invariant.3,
+      fill_more ms l.under l.level l.invariant.0 (omega arith) (omega arith) l.invariant.1,
     )
 
 pub returns : goal.returns
 returns c =
     let l = c.loop-level in
-    λ levels is. under_ext levels l.under l.invariant.0 (λ j h. l.invariant.3 levels is j (omega arith))
+    λ levels is. under_ext levels l.under l.invariant.0 (λ j h. l.invariant.1 levels is j (omega arith))

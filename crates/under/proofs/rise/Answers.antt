@@ -1,68 +1,67 @@
--- `under::rise` meets its contract. The loop's invariant: the table is as if the CPU had risen to the level at hand.
+-- `under::rise` meets its contract. The loop's invariant: the words passed have lost the CPU, and the others are as they were.
 -- Assumes nothing.
-use mathlib.Core.Path.{◌≡◌, refl, sym, ap, ◌∙◌}
-use mathlib.Core.Bool.{Bool, true, false}
-use mathlib.Core.List.{List}
-use Prim.Native.Nat.{ℕ, ◌+◌, ◌≤◌, ◌<◌}
+use mathlib.Core.Path.{◌≡◌, refl, ap, ◌∙◌}
+use mathlib.Core.Bool.{Bool, true, false, cond, ◌&&◌}
+use mathlib.Core.List.{List, ◌++◌}
+use Prim.Native.Nat.{ℕ, ◌+◌, ◌-◌, ◌≤◌, ◌<◌}
 use native.Mathlib.Omega.{arith}
-use lib.Dec.{eqb}
-use lib.ListN.{length, get_or, set, length-set}
-use lib.Seq.{get_or-set_same, get_or-set_other}
-use borrow.Author.Tests.{eqb-true, eqb-false}
+use lib.Dec.{ltb, leb}
+use lib.ListN.{length, get_or, set, take, drop, length-take, length-drop, get_or-append}
+use borrow.Author.Tests.{ltb-true, ltb-false, leb-true, leb-false}
+use borrow.Rule.Slice.PartMut.{mid_of, post_of, put_mid, same_len_mid}
+use Rattle.std.proofs.lemmas.List.{get_or-take, get_or-drop, get_or-append_right}
 use Rattle.bits.specs.Bit.{without_bit}
 use Rattle.levels.specs.Level.{level_count}
-use Rattle.under.proofs.Below.{under_at_lem, under_ext, risen, under_risen, risen_not, risen_here, risen_other}
-use Rattle.under.proofs.rise.Invariants.{Risen}
+use Rattle.under.proofs.Below.{under_at_lem, under_ext, risen, under_risen}
 use Rattle.under.proofs.rise.Goals as goal
 
-rise_more : (old under : List ℕ) (cpu from level : ℕ) → length under ≡ level_count → from ≤ level → level + 1 < level_count → Risen old under cpu from level
-    → Risen old (set under (level + 1) (without_bit (get_or under (level + 1) 0) cpu)) cpu from (level + 1)
-rise_more old under cpu from level size h top risen-so l hl = go (eqb l (level + 1)) refl
-  where
-    word : ℕ
-    word = without_bit (get_or under (level + 1) 0) cpu
+-- the words past `from`, up to and with `to`, have lost the CPU
+module _ (old items : List ℕ) (cpu from to : ℕ) (size : length old ≡ level_count) (up : from ≤ to) (top : to < level_count) where
+  abbrev a : ℕ
+  a = from + 1
 
-    go : (b : Bool) → eqb l (level + 1) ≡ b → get_or (set under (level + 1) word) l 0 ≡ risen cpu from (level + 1) l (get_or old l 0)
-    go true e =
-        let is : l ≡ level + 1 = eqb-true l (level + 1) e in
-        ap (λ (i : ℕ). get_or (set under (level + 1) word) i 0) is
-        ∙ get_or-set_same under (level + 1) word 0 (omega (arith, size))
-        ∙ ap (λ (x : ℕ). without_bit x cpu) (risen-so (level + 1) top)
-        ∙ risen_here cpu from level (get_or old (level + 1) 0) h
-        ∙ ap (λ (i : ℕ). risen cpu from (level + 1) i (get_or old i 0)) (sym is)
-    go false e =
-        let n = eqb-false l (level + 1) e in
-        get_or-set_other under (level + 1) l word 0 n
-        ∙ risen-so l hl
-        ∙ risen_other cpu from level l (get_or old l 0) n
+  abbrev k : ℕ
+  k = to + 1 - (from + 1)
 
-pub loop-level-init : goal.loop-level-init
-loop-level-init c =
-    let x = c.args in
-    (c.requires.under_len, omega arith, c.requires.cpu_lt_cpu_places.1, λ l h. sym (risen_not x.cpu x.from l (get_or x.under.now l 0)))
+  before : length (take a old) ≡ a
+  before = length-take a old ∙ omega arith
 
-pub clear_bit-requires : goal.clear_bit-requires
-clear_bit-requires c = c.requires.cpu_lt_cpu_places.0
+  part : length (mid_of a k old) ≡ k
+  part = omega (arith, length-take k (drop a old), length-drop a old)
 
-pub loop-level-preserved : goal.loop-level-preserved
-loop-level-preserved c =
-    let x = c.args in
-    let l = c.loop-level in (
-      length-set l.under (l.level + 1) c.clear_bit.result ∙ l.invariant.0,
-      omega arith,
-      omega arith,
-      λ j h. ap (λ (w : ℕ). get_or (set l.under (l.level + 1) w) j 0) c.clear_bit.ensures
-          ∙ rise_more x.under.now l.under x.cpu x.from l.level l.invariant.0 l.invariant.1 (omega (arith, c.requires.cpu_lt_cpu_places.2)) l.invariant.3 j h,
-    )
+  risen_part : length items ≡ length (mid_of a k old) → ((j : ℕ) → j < length items → get_or items j 0 ≡ without_bit (get_or (mid_of a k old) j 0) cpu)
+      → (l : ℕ) → get_or (put_mid a k old items) l 0 ≡ risen cpu from to l (get_or old l 0)
+  risen_part same cleared l = go (ltb from l) refl (leb l to) refl
+    where
+      go : (b : Bool) → ltb from l ≡ b → (d : Bool) → leb l to ≡ d → get_or (put_mid a k old items) l 0 ≡ cond (b && d) (without_bit (get_or old l 0) cpu) (get_or old l 0)
+      go false e d f =
+          let low : l < a = omega (arith, ltb-false from l e) in
+          get_or-append (take a old) (items ++ post_of a k old) 0 l (omega (arith, before)) ∙ get_or-take a old l 0 low
+      go true e true f =
+          let in_part : l - a < k = omega (arith, ltb-true from l e, leb-true l to f) in
+          let place : a + (l - a) ≡ l = omega (arith, ltb-true from l e) in
+          get_or-append_right (take a old) (items ++ post_of a k old) a l 0 before (omega (arith, ltb-true from l e))
+          ∙ get_or-append items (post_of a k old) 0 (l - a) (omega (arith, part))
+          ∙ cleared (l - a) (omega (arith, part))
+          ∙ ap (λ (x : ℕ). without_bit x cpu) (get_or-take k (drop a old) (l - a) 0 in_part ∙ get_or-drop a old (l - a) 0 ∙ ap (λ (i : ℕ). get_or old i 0) place)
+      go true e false f =
+          let place : a + (k + (l - a - k)) ≡ l = omega (arith, ltb-true from l e, leb-false l to f) in
+          get_or-append_right (take a old) (items ++ post_of a k old) a l 0 before (omega (arith, ltb-true from l e))
+          ∙ get_or-append_right items (post_of a k old) k (l - a) 0 (same ∙ part) (omega (arith, leb-false l to f))
+          ∙ get_or-drop k (drop a old) (l - a - k) 0
+          ∙ get_or-drop a old (k + (l - a - k)) 0
+          ∙ ap (λ (i : ℕ). get_or old i 0) place
 
 pub returns : goal.returns
 returns c =
     let x = c.args in
-    let l = c.loop-level in
-    let all : l.level ≡ x.to = omega arith in
+    let l = c.loop-word in
+    let up = c.requires.cpu_lt_cpu_places.1 in
+    let top = c.requires.cpu_lt_cpu_places.2 in
     λ levels is size was.
-    under_ext (set levels x.cpu x.to) l.under l.invariant.0 (λ j h.
-    l.invariant.3 j h
-    ∙ ap (λ (i : ℕ). risen x.cpu x.from i j (get_or x.under.now j 0)) all
+    under_ext (set levels x.cpu x.to) (put_mid (x.from + 1) (x.to + 1 - (x.from + 1)) x.under.now l.word-items)
+    (same_len_mid (x.from + 1) (x.to + 1 - (x.from + 1)) x.under.now l.word-items l.auto.word-items ∙ c.requires.under_len)
+    (λ j h.
+    risen_part x.under.now l.word-items x.cpu x.from x.to c.requires.under_len up top l.auto.word-items (λ i m. l.invariant.passed i (omega arith)) j
     ∙ ap (risen x.cpu x.from x.to j) (ap (λ (us : List ℕ). get_or us j 0) is ∙ under_at_lem levels j h)
-    ∙ under_risen levels x.cpu x.from x.to size c.requires.cpu_lt_cpu_places.0 was c.requires.cpu_lt_cpu_places.1 j)
+    ∙ under_risen levels x.cpu x.from x.to size c.requires.cpu_lt_cpu_places.0 was up j)

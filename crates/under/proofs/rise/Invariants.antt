@@ -1,18 +1,13 @@
--- `under::rise` meets its contract. The loop's invariant: the table is as if the CPU had risen to the level at hand.
+-- `under::rise` meets its contract. The loop's invariant: the words passed have lost the CPU, and the others are as they were.
 -- Assumes nothing.
 use mathlib.Core.Path.{◌≡◌}
-use mathlib.Core.List.{List}
-use Prim.Native.Nat.{ℕ, ◌-◌, ◌≤◌, ◌<◌}
-use lib.ListN.{length, get_or}
-use Rattle.levels.specs.Level.{level_count}
-use Rattle.under.proofs.Below.{risen}
+use Prim.Native.Nat.{ℕ, ◌≤◌, ◌<◌}
+use lib.ListN.{get_or}
+use Rattle.bits.specs.Bit.{without_bit}
 use Rattle.under.proofs.rise.Given as goal
 
-abbrev pub Risen : List ℕ → List ℕ → ℕ → ℕ → ℕ → Type 0
-Risen old under cpu from level = (l : ℕ) → l < level_count → get_or under l 0 ≡ risen cpu from level l (get_or old l 0)
-
-abbrev pub invariant-loop-level : goal.invariant-loop-level
-invariant-loop-level l = (length l.under ≡ level_count) × (l.from ≤ l.level) × (l.level ≤ l.to) × Risen l.initial.under l.under l.cpu l.from l.level
-
-abbrev pub decreases-loop-level : goal.decreases-loop-level
-decreases-loop-level l = l.to - l.level
+abbrev pub invariant-loop-word : goal.invariant-loop-word
+invariant-loop-word l = record {
+  passed : (k : ℕ) → k < l.word-index → get_or l.word-items k 0 ≡ without_bit (get_or l.initial.word-items k 0) l.cpu;
+  ahead : (k : ℕ) → l.word-index ≤ k → get_or l.word-items k 0 ≡ get_or l.initial.word-items k 0;
+}

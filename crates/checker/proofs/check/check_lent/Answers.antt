@@ -2,8 +2,6 @@
 -- Assumes nothing.
 use mathlib.Core.Path.{sym, ◌∙◌}
 use mathlib.Core.Bool.{true, false}
-use Rattle.levels.specs.Record.{lent_record}
-use Rattle.levels.specs.declared.record.Record.{Record}
 use Rattle.lenttables.specs.Lent.{lent}
 use Rattle.rules.specs.Tables.{Tables}
 use Rattle.laws.proofs.Entry.{lengths_shape}
@@ -13,9 +11,6 @@ use Rattle.checker.proofs.check.check_lent.Goals as goal
 
 -- what the caller lent
 module _ (c : Start) where
-  abbrev given : Record
-  given = let x = c.args in lent_record x.masks.now x.tallies.now x.words.now x.levels.now
-
   abbrev tables : Tables
   tables =
       let x = c.args in
@@ -24,7 +19,7 @@ module _ (c : Start) where
 pub returns-then-not-lengths_fit : goal.returns-then-not-lengths_fit
 returns-then-not-lengths_fit c =
     let f = c.lengths_fit in
-    sym (checked_size c.args.n (given (goal.at.returns-then-not-lengths_fit c).Start) (tables (goal.at.returns-then-not-lengths_fit c).Start) (sym (f.ensures c.args.online.now) ∙ c.if-not-lengths_fit.true))
+    sym (checked_size c.args.n c.args.«record».now (tables (goal.at.returns-then-not-lengths_fit c).Start) (sym (f.ensures c.args.online.now) ∙ c.if-not-lengths_fit.true))
 
 pub tables_fit-requires : goal.tables_fit-requires
 tables_fit-requires c =
@@ -33,7 +28,6 @@ tables_fit-requires c =
       shape = l.0;
       rows_len = l.1;
       counts_len = l.2;
-      sized = c.requires;
     }
 
 pub returns-then-not-tables_fit : goal.returns-then-not-tables_fit
@@ -41,7 +35,7 @@ returns-then-not-tables_fit c =
     let f = c.lengths_fit in
     let g = c.tables_fit in
     sym
-    (checked_form c.args.n (given (goal.at.returns-then-not-tables_fit c).Start) (tables (goal.at.returns-then-not-tables_fit c).Start) (sym (f.ensures c.args.online.now) ∙ c.if-not-lengths_fit.false) false
+    (checked_form c.args.n c.args.«record».now (tables (goal.at.returns-then-not-tables_fit c).Start) (sym (f.ensures c.args.online.now) ∙ c.if-not-lengths_fit.false) false
     (sym g.ensures ∙ c.if-not-tables_fit.true))
 
 pub returns : goal.returns
@@ -49,5 +43,5 @@ returns c =
     let f = c.lengths_fit in
     let g = c.tables_fit in
     sym
-    (checked_form c.args.n (given (goal.at.returns c).Start) (tables (goal.at.returns c).Start) (sym (f.ensures c.args.online.now) ∙ c.if-not-lengths_fit.false) true
+    (checked_form c.args.n c.args.«record».now (tables (goal.at.returns c).Start) (sym (f.ensures c.args.online.now) ∙ c.if-not-lengths_fit.false) true
     (sym g.ensures ∙ c.if-not-tables_fit.false))

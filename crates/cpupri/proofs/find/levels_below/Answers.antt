@@ -1,6 +1,6 @@
 -- `cpupri::find::levels_below` meets its contract.
 -- Assumes nothing.
-use mathlib.Core.Path.{refl, ap, ◌∙◌}
+use mathlib.Core.Path.{ap, ◌∙◌}
 use Prim.Native.Nat.{ℕ, ◌-◌}
 use native.Mathlib.Omega.{arith}
 use Rattle.bits.specs.Bit.{bit}
@@ -10,20 +10,14 @@ use Rattle.cpupri.proofs.find.levels_below.Goals as goal
 
 pub returns-then-below-base : goal.returns-then-below-base
 returns-then-below-base c = record {
-  by_index = (λ i h l. absurd (let no : ⊥ = omega (arith, c.if-below-base.true, l) in no));
-  by_index_2 = (λ i h l. bit_of_zero i);
-}
-
-pub returns-then-levels-ge-BITS : goal.returns-then-levels-ge-BITS
-returns-then-levels-ge-BITS c = record {
-  by_index = (λ i h l. refl);
-  by_index_2 = (λ i h l. absurd (let no : ⊥ = omega (arith, c.if-below-base.false, c.if-levels-ge-BITS.true, h, l) in no));
+  kept = (λ i h l. absurd (let no : ⊥ = omega (arith, c.if-below-base.true, l) in no));
+  cut = (λ i h l. bit_of_zero i);
 }
 
 pub returns : goal.returns
 returns c =
     let x = c.args in
     let levels = x.below - x.base in record {
-      by_index = (λ i h l. ap (λ (m : ℕ). bit m i) c.low_bits.ensures ∙ bit_mod_below levels x.word i (omega (arith, c.if-below-base.false, l)));
-      by_index_2 = (λ i h l. ap (λ (m : ℕ). bit m i) c.low_bits.ensures ∙ bit_mod_above levels x.word i (omega (arith, c.if-below-base.false, l)));
+      kept = (λ i h l. ap (λ (m : ℕ). bit m i) c.low_bits.ensures ∙ bit_mod_below levels x.word i (omega (arith, c.if-below-base.false, l)));
+      cut = (λ i h l. ap (λ (m : ℕ). bit m i) c.low_bits.ensures ∙ bit_mod_above levels x.word i (omega (arith, c.if-below-base.false, l)));
     }

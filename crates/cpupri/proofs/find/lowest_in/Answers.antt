@@ -12,7 +12,7 @@ use Rattle.bits.proofs.Digits.{bit_le}
 use Rattle.bits.proofs.Search.{lowest_lt, lowest_bit}
 use Rattle.cpupri.specs.Found.{allowed_at, any_at}
 use Rattle.cpupri.specs.Search.{LowestIn}
-use Rattle.cpupri.proofs.Search.{Going, going_first, pass, none_left, one_in}
+use Rattle.cpupri.proofs.Search.{Going, pass, none_left, one_in}
 use Rattle.cpupri.proofs.find.lowest_in.Goals.{After-clear_lowest-active, In-loop-active}
 use Rattle.cpupri.proofs.find.lowest_in.Goals as goal
 
@@ -39,11 +39,6 @@ fewer c =
     let k = c in
     subst (λ (i : ℕ). i < k.loop-active.active) (sym k.clear_lowest-active.ensures) (less k.loop-active.active (lowest 64 k.loop-active.active) (place_set (goal.at.After-clear_lowest-active k).In-loop-active))
 
-pub loop-active-init : goal.loop-active-init
-loop-active-init c =
-    let x = c.args in
-    (c.levels_below-active.type_inv, going_first x.masks.now x.mask x.base x.below x.word c.levels_below-active.result c.requires.base_bound.1 c.requires.passed c.levels_below-active.ensures.by_index c.levels_below-active.ensures.by_index_2)
-
 pub returns-then-masks-at-ne0 : goal.returns-then-masks-at-ne0
 unfolding any_at allowed_at
 returns-then-masks-at-ne0 c =
@@ -54,9 +49,6 @@ returns-then-masks-at-ne0 c =
     subst (λ (i : ℕ). LowestIn x.masks.now x.mask x.base x.below (x.base + i)) (sym is)
     (one_in x.masks.now x.mask x.base x.below c.loop-active.active c.loop-active.invariant.1 (place_lt (goal.at.returns-then-masks-at-ne0 c).In-loop-active) (place_below (goal.at.returns-then-masks-at-ne0 c).In-loop-active)
     (subst (λ (i : ℕ). any_at x.masks.now x.mask (x.base + i) ≡ true) is any))
-
-pub clear_lowest-active-requires : goal.clear_lowest-active-requires
-clear_lowest-active-requires c = omega (arith, c.loop-active-test.true)
 
 pub loop-active-smaller : goal.loop-active-smaller
 loop-active-smaller c = fewer c

@@ -42,14 +42,6 @@ returns-then-len-at-2 c =
     let x = c.args in
     sym (item_cut x.room x.at x.bytes.now c.layout_of-l.result c.if-room-eq0.false (within (goal.at.returns-then-len-at-2 c).Else-l-eq0) c.layout_of-l.ensures c.if-l-eq0.false c.if-len-at-2.true)
 
-pub decode-event-requires : goal.decode-event-requires
-decode-event-requires c =
-    let room = c.if-len-at-2.false in
-    let here = within (goal.at.decode-event-requires c).Else-l-eq0 in record {
-      fields = (known (goal.at.decode-event-requires c).Else-l-eq0).fields;
-      l_in_bounds = omega (arith, room, here);
-    }
-
 pub returns : goal.returns
 returns c =
     let x = c.args in

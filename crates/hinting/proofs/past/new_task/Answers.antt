@@ -1,5 +1,6 @@
 -- `hinting::past::new_task` meets its contract.
 -- Assumes nothing.
+use mathlib.Core.Path.{◌∙◌}
 use native.Mathlib.Omega.{arith}
 use lib.ListN.{get_or}
 use Prim.Native.Nat.{◌<◌}
@@ -31,7 +32,7 @@ returns-then-ran-at c =
 pub returns : goal.returns
 returns c =
     λ m r is.
-    new_behind r is c.args.task c.requires.task_lt_task_places c.args.at c.args.ran c.if-state-own-ne-RUNNABLE.false c.if-rows-start.false c.if-ran-at.false
+    c.task_in.ensures ∙ new_behind r is c.args.task c.requires.task_lt_task_places c.args.at c.args.ran c.if-state-own-ne-RUNNABLE.false c.if-rows-start.false c.if-ran-at.false
 
 pub bounds-rows-start : goal.bounds-rows-start
 bounds-rows-start c = omega (arith, low (goal.at.bounds-rows-start c).Start, rows_long (lent (goal.at.bounds-rows-start c).Start))

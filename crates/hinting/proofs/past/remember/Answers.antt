@@ -24,9 +24,6 @@ returns-in-Flag c = λ m r. decided_past m c.args.decision _ c.in-Flag.is
 pub returns-in-Nothing : goal.returns-in-Nothing
 returns-in-Nothing c = λ m r. decided_past m c.args.decision _ c.in-Nothing.is
 
-pub returns-in-Refused : goal.returns-in-Refused
-returns-in-Refused c = λ m r. decided_past m c.args.decision _ c.in-Refused.is
-
 pub returns-in-Offline : goal.returns-in-Offline
 returns-in-Offline c = λ m r. c.runner.ensures m r ∙ decided_past m c.args.decision _ c.in-Offline.is
 

@@ -64,24 +64,24 @@ module _ {ps ks flat : List ℕ} {r : Record} {v : Move} (m : Machine) (s : Step
 -- ---- the needs
 pub dequeue-requires : goal.dequeue-requires
 dequeue-requires c =
-    let m = c.requires.fact.0 in
-    let s = c.requires.fact.1 in let all = can_leave m c.args.step.task s.held (leaves_small m s) (stands m s) in record {
+    let m = c.requires.stepping.0 in
+    let s = c.requires.stepping.1 in let all = can_leave m c.args.step.task s.held (leaves_small m s) (stands m s) in record {
       holds_rows = all.0;
       cpu_in_bounds = all.1.0;
-      fact = all.1.1;
+      stands = all.1.1;
     }
 
 pub enter-requires : goal.enter-requires
 enter-requires c =
-    let m = c.requires.fact.0 in
-    let s = c.requires.fact.1 in record {
-      fact = (dequeue c.args.step.task c.args.step.origin m, entering m s c.dequeue.ensures.fact_2 c.dequeue.ensures.fact_1);
+    let m = c.requires.stepping.0 in
+    let s = c.requires.stepping.1 in record {
+      entering = (dequeue c.args.step.task c.args.step.origin m, entering m s c.dequeue.ensures.counts_are c.dequeue.ensures.rows_are);
       cpus_len = c.requires.cpus_len;
     }
 
 pub returns : goal.returns
 returns c =
     record {
-      fact_1 = λ m s. c.enter.ensures.fact_1 (dequeue c.args.step.task c.args.step.origin m) (entering m s c.dequeue.ensures.fact_2 c.dequeue.ensures.fact_1);
-      fact_2 = c.enter.ensures.fact_2;
+      held = λ m s. c.enter.ensures.held (dequeue c.args.step.task c.args.step.origin m) (entering m s c.dequeue.ensures.counts_are c.dequeue.ensures.rows_are);
+      cpus_set = c.enter.ensures.cpus_set;
     }

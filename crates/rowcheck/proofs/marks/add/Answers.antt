@@ -15,7 +15,7 @@ pub returns-then-test_bit : goal.returns-then-test_bit
 unfolding marked
 returns-then-test_bit c = record {
   value = sym (ap not (sym c.test_bit.ensures ∙ c.if-test_bit.true));
-  marks_len_2 = λ e. never e;
+  joined = λ e. never e;
 }
 
 pub returns : goal.returns
@@ -27,7 +27,7 @@ returns c =
     let task : a.task < 512 = omega arith in
     let free : bit (get_or marks (a.task / 64) 0) (a.task % 64) ≡ false = sym c.test_bit.ensures ∙ c.if-test_bit.false in record {
       value = ap not (sym free);
-      marks_len_2 = λ e. (
+      joined = λ e. (
         length-set marks (a.task / 64) c.set_bit.result ∙ size,
         λ u. ap (λ (w : ℕ). mark (set marks (a.task / 64) w) u) c.set_bit.ensures ∙ mark_more marks a.task (omega arith) free u,
       );

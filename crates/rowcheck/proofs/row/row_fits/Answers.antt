@@ -1,9 +1,11 @@
 -- `rowcheck::row::row_fits` meets its contract. Assumes nothing.
-use mathlib.Core.Path.{◌≡◌}
+use mathlib.Core.Path.{◌≡◌, sym, subst}
 use mathlib.Core.Bool.{true, ◌&&◌}
 use native.Mathlib.Omega.{arith}
 use borrow.Author.Tests.{leb-true, le-leb}
 use lib.Dec.{leb}
+use lib.Seq.{get_or-take, length-take-le}
+use Prim.Native.Nat.{ℕ, ◌<◌}
 use Rattle.bits.proofs.Tests.{and_both}
 use Rattle.laws.proofs.Bools.{both}
 use Rattle.rowcheck.proofs.Saying.{say, yes, no, said, never}
@@ -26,8 +28,10 @@ pub level_fits-requires : goal.level_fits-requires
 level_fits-requires c =
     let t = c.tasks_stand in
     let good = yes t.result t.ensures.says c.if-not-tasks_stand.false in record {
-      row_len = omega arith;
-      by_index = λ i h. (good.0 i h).number;
+      prio_len = omega arith;
+      task_numbers = λ i h.
+          let inside : i < c.args.count = omega (arith, length-take-le c.args.count c.args.row.now (omega arith)) in
+          subst (λ (u : ℕ). u < 512) (sym (get_or-take c.args.count c.args.row.now i 0 inside)) (good.0 i inside).number;
     }
 
 pub returns : goal.returns

@@ -2,24 +2,24 @@
 -- set, and `bound` is the priority of the last. Assumes nothing.
 use mathlib.Core.Path.{◌≡◌, refl, sym, ap, ◌∙◌, subst}
 use mathlib.Core.Bool.{true}
-use Prim.Native.Nat.{ℕ, ◌+◌, ◌≤◌, ◌<◌}
-use lib.ListN.{length, get_or, take}
 use mathlib.Core.List.{List}
+use Prim.Native.Nat.{ℕ, ◌+◌, ◌≤◌, ◌<◌}
 use native.Mathlib.Omega.{arith}
-use borrow.Author.Tests.{not-false}
+use native.Mathlib.Nat.{not-suc-le-zero}
 use native.Mathlib.Numerals.{add-one}
+use lib.Dec.{eqb}
+use lib.ListN.{length, get_or, take}
+use lib.Seq.{get_or-take, length-take-le}
 use borrow.Author.Count.{below_more}
+use borrow.Author.Tests.{not-false}
 use Rattle.bits.specs.Bit.{digit}
 use Rattle.rules.specs.Lists.{occ}
 use Rattle.laws.proofs.Lists.{digit_same, occ_nil}
-use Rattle.rowcheck.specs.Placed.{marked, mark, above, Stands, AllStand, Marks}
-use Rattle.rowcheck.proofs.Saying.{yes, no, never}
-use Rattle.rowcheck.proofs.Marking.{digit_le, occ_take, occ_grows}
-use Rattle.rowcheck.proofs.row.tasks_stand.Goals.{At-loop-i, Else-not-stands}
+use Rattle.rowcheck.specs.Placed.{marked, mark, above, Stands}
+use Rattle.rowcheck.proofs.Saying.{yes}
+use Rattle.rowcheck.proofs.Marking.{occ_take, occ_grows}
+use Rattle.rowcheck.proofs.row.tasks_stand.Goals.{In-loop-place, Else-not-stands}
 use Rattle.rowcheck.proofs.row.tasks_stand.Goals as goal
-
-none : {k : ℕ} → k < 0 → ⊥
-none h = omega arith
 
 -- a task that is in the set, and stands at place i, is there twice
 twice : (marks marks₀ row : List ℕ) (i count : ℕ) → i < count → i < length row
@@ -32,72 +32,57 @@ twice marks marks₀ row i count h l e t p =
 
 -- ---- the task that is looked at
 
--- it may stand there, behind a task of priority b
-abbrev Here : At-loop-i → ℕ → Type 0
-Here c b =
+module _ (c : In-loop-place) where
+  within : let k = c in k.loop-place.place-index < k.args.count
+  within = let k = c in omega (arith, length-take-le k.args.count k.args.row.now k.requires.count_in_bounds.0)
+
+  -- the place is the row's
+  same : let k = c in get_or (take k.args.count k.args.row.now) k.loop-place.place-index 0 ≡ get_or k.args.row.now k.loop-place.place-index 0
+  same = let k = c in get_or-take k.args.count k.args.row.now k.loop-place.place-index 0 within
+
+-- it may stand there
+here : (c : Else-not-stands)
+    → let k = c in let a = k.args in Stands a.state.now a.prio.now a.cpu.now a.c (above a.prio.now a.row.now k.loop-place.place-index) (get_or a.row.now k.loop-place.place-index 0)
+here c =
     let k = c in
     let a = k.args in
-    Stands a.state.now a.prio.now a.cpu.now a.c b (get_or a.row.now k.loop-i.i 0)
-
-here : (c : Else-not-stands) → let k = c in Here (goal.at.Else-not-stands k).At-loop-i k.loop-i.bound
-here c = let k = c in yes k.stands.result k.stands.ensures k.if-not-stands.false
+    subst (λ (u : ℕ). Stands a.state.now a.prio.now a.cpu.now a.c (above a.prio.now a.row.now k.loop-place.place-index) u) (same (goal.at.Else-not-stands k).In-loop-place)
+    (subst (λ (b : ℕ). Stands a.state.now a.prio.now a.cpu.now a.c b (get_or (take a.count a.row.now) k.loop-place.place-index 0)) k.loop-place.invariant.0
+    (yes k.stands.result k.stands.ensures k.if-not-stands.false))
 
 -- ---- the needs
-pub loop-i-init : goal.loop-i-init
-loop-i-init c = (omega arith, refl, (λ k h. absurd (none h)), (c.requires.count_in_bounds.1, λ u. omega (arith, occ_nil u)))
 
-pub stands-requires : goal.stands-requires
-stands-requires c = c.requires.state_len
+pub loop-place-init : goal.loop-place-init
+loop-place-init c = (refl, λ i h. absurd (not-suc-le-zero h), (c.requires.count_in_bounds.1, λ u. omega (arith, occ_nil u)))
 
-pub returns-then-not-stands : goal.returns-then-not-stands
-returns-then-not-stands c =
-    let l = c.loop-i in record {
-      says = λ p.
-          no c.stands.result c.stands.ensures c.if-not-stands.true
-          (subst (Here (goal.at.returns-then-not-stands c).At-loop-i) (sym l.invariant.1) (p.0 l.i (omega arith)));
-      marks = λ e. never e;
-    }
-
-pub add-requires : goal.add-requires
-add-requires c =
-    record {
-      marks_len = c.loop-i.invariant.3.0;
-      task_lt_task_places = (here (goal.at.add-requires c).Else-not-stands).number;
-    }
-
-pub returns-then-not-add : goal.returns-then-not-add
-returns-then-not-add c =
-    let l = c.loop-i in
+pub returns-then-not-add-clause-says : goal.returns-then-not-add-clause-says
+returns-then-not-add-clause-says c =
+    let l = c.loop-place in
     let row = c.args.row.now in
-    let u = get_or row l.i 0 in
-    let there : marked l.marks u ≡ true =
-    not-false (marked l.marks u) (sym c.add.ensures.value ∙ c.if-not-add.true) in record {
-      says = λ p. twice l.marks c.args.marks.now row l.i c.args.count (omega arith) (omega arith) (l.invariant.3.1 u) there (p.1 u);
-      marks = λ e. never e;
-    }
+    let u = get_or row l.place-index 0 in
+    let is = same (goal.at.returns-then-not-add-clause-says c).In-loop-place in
+    let inside = within (goal.at.returns-then-not-add-clause-says c).In-loop-place in
+    let there : marked l.marks u ≡ true = ap (marked l.marks) (sym is) ∙ not-false (marked l.marks _) (sym c.add.ensures.value ∙ c.if-not-add.true) in
+    λ p. twice l.marks c.args.marks.now row l.place-index c.args.count inside (omega arith) (l.invariant.2.1 u) there (p.1 u)
 
-pub loop-i-preserved : goal.loop-i-preserved
-loop-i-preserved c =
-    let l = c.loop-i in
+pub loop-place-preserved : goal.loop-place-preserved
+loop-place-preserved c =
+    let l = c.loop-place in
     let row = c.args.row.now in
     let prio = c.args.prio.now in
-    let joined = c.add.ensures.marks_len_2 c.if-not-add.false in (
-      omega arith,
-      ap (above prio row) (sym (add-one l.i)),
-      below_more _ _ l.invariant.2 (subst (Here (goal.at.loop-i-preserved c).At-loop-i) l.invariant.1 (here (goal.at.loop-i-preserved c).Else-not-stands)),
-      (joined.0, λ u. omega (arith, joined.1 u, l.invariant.3.1 u, occ_take u row l.i (omega arith))),
+    let is = same (goal.at.loop-place-preserved c).In-loop-place in
+    let inside = within (goal.at.loop-place-preserved c).In-loop-place in
+    let joined = c.add.ensures.joined c.if-not-add.false in (
+      ap (λ (u : ℕ). get_or prio u 0) is ∙ ap (above prio row) (sym (add-one l.place-index)),
+      below_more _ _ l.invariant.1 (here (goal.at.loop-place-preserved c).Else-not-stands),
+      (
+        joined.0,
+        λ u. omega (
+          arith,
+          joined.1 u,
+          l.invariant.2.1 u,
+          occ_take u row l.place-index (omega arith),
+          ap (λ (v : ℕ). digit (eqb u v)) is,
+        ),
+      ),
     )
-
-pub returns : goal.returns
-returns c =
-    let a = c.args in
-    let l = c.loop-i in
-    let all : l.i ≡ a.count = omega arith in
-    let joined : Marks a.marks.now a.row.now a.count l.marks =
-    subst (λ (n : ℕ). Marks a.marks.now a.row.now n l.marks) all l.invariant.3 in record {
-      says = (
-        subst (AllStand a.state.now a.prio.now a.cpu.now a.row.now a.c) all l.invariant.2,
-        λ u. omega (arith, joined.1 u, digit_le (marked l.marks u)),
-      );
-      marks = λ e. joined;
-    }

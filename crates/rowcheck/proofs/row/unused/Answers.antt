@@ -1,50 +1,35 @@
--- `rowcheck::row::unused` meets its contract. The loop's invariant: the test says whether the places passed, from `count` on, hold nothing.
+-- `rowcheck::row::unused` meets its contract. The loop's invariant: the test says whether the places passed hold nothing.
 -- Assumes nothing.
-use mathlib.Core.Path.{◌≡◌, refl, ap, ◌∙◌}
-use mathlib.Core.Bool.{Bool, true, false, ◌&&◌}
+use mathlib.Core.Path.{◌≡◌, sym, ap, ◌∙◌}
 use mathlib.Core.List.{List}
-use Prim.Native.Nat.{ℕ, ◌+◌, ◌≤◌, ◌<◌}
+use Prim.Native.Nat.{ℕ, ◌+◌, ◌-◌, ◌≤◌, ◌<◌}
 use native.Mathlib.Omega.{arith}
-use lib.Dec.{eqb, ltb}
-use lib.ListN.{get_or}
-use borrow.Author.Tests.{eqb-true, eq-eqb, ltb-true, ltb-false}
-use Rattle.rules.specs.Tables.{nothing}
-use Rattle.rowcheck.specs.Says.{Says}
-use Rattle.rowcheck.proofs.Saying.{say}
-use Rattle.rowcheck.proofs.row.unused.Invariants.{Passed}
+use lib.ListN.{length, get_or, take, drop, length-drop}
+use lib.Seq.{get_or-take, get_or-drop, length-take-le}
+use Rattle.rowcheck.proofs.Saying.{as_well}
 use Rattle.rowcheck.proofs.row.unused.Goals as goal
 
-none : {k n : ℕ} → n ≤ k → k < n → ⊥
-none h l = omega arith
+module _ (row : List ℕ) (count : ℕ) (size : length row ≡ 512) (few : count ≤ 512) where
+  -- the places that the loop goes over
+  abbrev rest : List ℕ
+  rest = take (512 - count) (drop count row)
 
-extend : (row : List ℕ) (count i : ℕ) → Passed row count i → get_or row i 0 ≡ nothing → Passed row count (i + 1)
-extend row count i h e k a b = go (ltb k i) refl
-  where
-    go : (t : Bool) → ltb k i ≡ t → get_or row k 0 ≡ nothing
-    go true s = h k a (ltb-true k i s)
-    go false s = let here : k ≡ i = omega (arith, ltb-false k i s) in ap (λ (j : ℕ). get_or row j 0) here ∙ e
+  rest_size : length rest ≡ 512 - count
+  rest_size = length-take-le (512 - count) (drop count row) (omega (arith, length-drop count row))
 
-more : (all : Bool) (row : List ℕ) (count i : ℕ) → count ≤ i → Says all (Passed row count i) → Says (all && eqb (get_or row i 0) nothing) (Passed row count (i + 1))
-more true row count i l h =
-    say (eqb (get_or row i 0) nothing) (λ e. extend row count i h (eqb-true (get_or row i 0) nothing e)) (λ u. eq-eqb (get_or row i 0) nothing (u i l (omega arith)))
-more false row count i l h = λ u. h (λ k a b. u k a (omega arith))
+  same : (k : ℕ) → k < 512 - count → get_or rest k 0 ≡ get_or row (count + k) 0
+  same k h = get_or-take (512 - count) (drop count row) k 0 h ∙ get_or-drop count row k 0
 
--- at the end of the row nothing is left out
-whole : (all : Bool) (row : List ℕ) (count i : ℕ) → i ≡ 512 → Says all (Passed row count i) → Says all (Passed row count 512)
-whole true row count i e h = λ k a b. h k a (omega arith)
-whole false row count i e h = λ u. h (λ k a b. u k a (omega arith))
-
-pub loop-i-init : goal.loop-i-init
-loop-i-init c = (omega arith, omega arith, λ k a b. absurd (none a b))
-
-pub loop-i-preserved : goal.loop-i-preserved
-loop-i-preserved c =
-    let l = c.loop-i in
-    let a = c.args in
-    (omega arith, omega arith, more l.all a.row.now a.count l.i l.invariant.0 l.invariant.2)
+  same_from : (i : ℕ) → count ≤ i → i < 512 → get_or rest (i - count) 0 ≡ get_or row i 0
+  same_from i low high = let back : count + (i - count) ≡ i = omega arith in same (i - count) (omega arith) ∙ ap (λ (j : ℕ). get_or row j 0) back
 
 pub returns : goal.returns
 returns c =
-    let l = c.loop-i in
-    let a = c.args in
-    whole l.all a.row.now a.count l.i (omega arith) l.invariant.2
+    let row = c.args.row.now in
+    let count = c.args.count in
+    let l = c.loop-place in
+    let size = c.requires.row_len in
+    let few = c.requires.count_le_task_places in
+    let all : l.place-index ≡ 512 - count = omega (arith, rest_size row count size few) in
+    as_well l.all (λ p i low high. sym (same_from row count size few i low high) ∙ p (i - count) (omega arith))
+    (λ u k h. same row count size few k (omega arith) ∙ u (count + k) (omega arith) (omega arith)) l.invariant

@@ -25,7 +25,7 @@ pub rank-at-requires : goal.rank-at-requires
 rank-at-requires c =
     let a = c.args in
     let fits : a.count ≤ length a.row.now = omega (arith, row_size a.count a.row.now c.requires.holds_row, c.requires.holds_row.most) in
-    ordered_row a.prio.now a.row.now a.count fits c.requires.prio_len c.requires.by_index c.requires.falling
+    ordered_row a.prio.now a.row.now a.count fits c.requires.prio_len c.requires.task_numbers c.requires.falling
 
 pub shift_up-requires : goal.shift_up-requires
 shift_up-requires c =

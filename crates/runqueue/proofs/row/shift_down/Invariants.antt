@@ -1,10 +1,13 @@
 -- `runqueue::row::shift_down` meets its contract. The loop's invariant: the places before i have moved. Assumes nothing.
-use Prim.Native.Nat.{◌-◌, ◌≤◌, ◌<◌}
-use Rattle.runqueue.proofs.Shift.{Down}
+use mathlib.Core.Path.{◌≡◌}
+use Prim.Native.Nat.{ℕ, suc, ◌≤◌, ◌<◌}
+use lib.ListN.{length, get_or}
 use Rattle.runqueue.proofs.row.shift_down.Given as goal
 
 abbrev pub invariant-loop-i : goal.invariant-loop-i
-invariant-loop-i l = (l.at < l.i) × (l.i ≤ l.count) × Down l.at l.i l.initial.row l.row
-
-abbrev pub decreases-loop-i : goal.decreases-loop-i
-decreases-loop-i l = l.count - l.i
+invariant-loop-i l = record {
+  size : length l.row ≡ length l.initial.row;
+  before : (k : ℕ) → k < l.at → get_or l.row k 0 ≡ get_or l.initial.row k 0;
+  moved : (k : ℕ) → l.at ≤ k → suc k < l.i → get_or l.row k 0 ≡ get_or l.initial.row (suc k) 0;
+  after : (k : ℕ) → l.i ≤ suc k → get_or l.row k 0 ≡ get_or l.initial.row k 0;
+}

@@ -30,13 +30,13 @@ module _ (c : Start) where
   counted = let a = c.args in count_is a.counts.now a.rows.now c.requires.holds_rows a.cpu c.requires.cpu_in_bounds
 
   one_less_lem : let a = c.args in suc (length shorter) ≡ get_or a.counts.now a.cpu 0
-  one_less_lem = length_delete c.args.task row c.requires.fact ∙ sym counted
+  one_less_lem = length_delete c.args.task row c.requires.stands ∙ sym counted
 
 pub remove-requires : goal.remove-requires
 remove-requires c =
     let a = c.args in record {
       holds_row = lent_held c.requires.holds_rows a.cpu c.requires.cpu_in_bounds;
-      fact = subst (In a.task) (sym (lent_row c.requires.holds_rows a.cpu c.requires.cpu_in_bounds)) c.requires.fact;
+      stands = subst (In a.task) (sym (lent_row c.requires.holds_rows a.cpu c.requires.cpu_in_bounds)) c.requires.stands;
     }
 
 pub returns : goal.returns
@@ -45,8 +45,8 @@ returns c =
     let less = shorter (goal.at.returns c).Start in
     let part = c.remove.ensures ∙ ap (λ (r : List ℕ). padded (delete a.task r)) (lent_row c.requires.holds_rows a.cpu c.requires.cpu_in_bounds) in
     let count : get_or a.counts.now a.cpu 0 - 1 ≡ length less = omega (arith, one_less_lem (goal.at.returns c).Start) in record {
-      fact_1 = lent_become c.requires.holds_rows a.cpu c.requires.cpu_in_bounds less part;
-      fact_2 = ap (set a.counts.now a.cpu) count ∙ counts_become a.counts.now a.rows.now c.requires.holds_rows a.cpu c.requires.cpu_in_bounds less;
+      rows_are = lent_become c.requires.holds_rows a.cpu c.requires.cpu_in_bounds less part;
+      counts_are = ap (set a.counts.now a.cpu) count ∙ counts_become a.counts.now a.rows.now c.requires.holds_rows a.cpu c.requires.cpu_in_bounds less;
     }
 
 pub overflow_mul-start : goal.overflow_mul-start

@@ -52,7 +52,7 @@ insert-requires c =
       holds_row = lent_held c.requires.holds_rows a.cpu c.requires.cpu_in_bounds;
       count_lt_task_places = room s;
       prio_len = c.requires.prio_len;
-      by_index = tasks;
+      task_numbers = tasks;
       falling = falling;
     }
 

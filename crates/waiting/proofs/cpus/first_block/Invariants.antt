@@ -1,10 +1,7 @@
--- `waiting::cpus::first_block` meets its contract. The loop's invariant: nobody waits on the CPUs passed. Assumes nothing.
-use Prim.Native.Nat.{◌-◌, ◌≤◌}
+-- `waiting::cpus::first_block` meets its contract. The loop's invariant: nobody waits on the CPUs of the blocks passed. Assumes nothing.
+use Prim.Native.Nat.{◌*◌}
 use Rattle.waiting.specs.Waiting.{NobodyWaits}
 use Rattle.waiting.proofs.cpus.first_block.Given as goal
 
-abbrev pub invariant-loop-next : goal.invariant-loop-next
-invariant-loop-next l = (l.next ≤ l.n) × NobodyWaits l.counts 0 l.next
-
-abbrev pub decreases-loop-next : goal.decreases-loop-next
-decreases-loop-next l = l.n - l.next
+abbrev pub invariant-loop-block : goal.invariant-loop-block
+invariant-loop-block l = NobodyWaits l.counts 0 (l.block * 16)

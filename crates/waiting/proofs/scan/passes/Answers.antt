@@ -1,6 +1,6 @@
 -- `waiting::scan::passes` meets its contract.
 -- Assumes nothing.
-use mathlib.Core.Path.{◌≡◌, sym, ap, ◌∙◌, subst}
+use mathlib.Core.Path.{◌≡◌, refl, sym, ap, ap₂, ◌∙◌, subst}
 use mathlib.Core.Bool.{Bool, not, ◌&&◌, ◌||◌}
 use mathlib.Core.List.{List}
 use Prim.Native.Nat.{ℕ}
@@ -9,21 +9,27 @@ use lib.Dec.{eqb, ltb}
 use lib.ListN.{get_or}
 use Rattle.bits.specs.Bit.{bit}
 use Rattle.cpupri.specs.Level.{level_of}
-use Rattle.waiting.specs.Wanted.{Asked, passing}
+use Rattle.std.specs.Prelude.{Option, Some, None}
+use Rattle.std.specs.Option.{option_eq}
+use Rattle.waiting.specs.Wanted.{Asked, names, passing}
 use Rattle.waiting.specs.declared.scan.Test.{Test}
 use Rattle.waiting.specs.declared.scan.Test.TheVariants.{Movable, Drawn}
 use Rattle.waiting.proofs.scan.passes.Goals as goal
+
+names_is : (o : Option ℕ) (u : ℕ) → option_eq eqb o (Some u) ≡ names o u
+names_is None u = refl
+names_is (Some t) u = refl
 
 module _ {test : Test} (under : List ℕ) (u p k : ℕ) (x : ℕ) (own : x ≡ level_of p) where
   by_word : {low : ℕ} → test ≡ Movable low → not (eqb (bit_and (get_or under x 0) k) 0) ≡ passing test under u p k
   unfolding passing
   by_word is = ap (λ (y : ℕ). not (eqb (bit_and (get_or under y 0) k) 0)) own ∙ sym (ap (λ (q : Test). passing q under u p k) is)
 
-  by_draw : {c l new : ℕ} → test ≡ Drawn c l new → (b : Bool) → b ≡ bit k c → (eqb u new || (b && ltb l x)) ≡ passing test under u p k
+  by_draw : {c l : ℕ} {new : Option ℕ} → test ≡ Drawn c l new → (n b : Bool) → n ≡ names new u → b ≡ bit k c → (n || (b && ltb l x)) ≡ passing test under u p k
   unfolding passing
-  by_draw {c} {l} {new} is b e =
-      ap (λ (b : Bool). eqb u new || (b && ltb l x)) e
-      ∙ ap (λ (y : ℕ). eqb u new || (bit k c && ltb l y)) own
+  by_draw {c} {l} {new} is n b en eb =
+      ap₂ (λ (n b : Bool). n || (b && ltb l x)) en eb
+      ∙ ap (λ (y : ℕ). names new u || (bit k c && ltb l y)) own
       ∙ sym (ap (λ (q : Test). passing q under u p k) is)
 
 pub test_bit-requires : goal.test_bit-requires
@@ -37,4 +43,4 @@ returns-in-Movable c =
 pub returns-in-Drawn : goal.returns-in-Drawn
 returns-in-Drawn c =
     let x = c.args in
-    by_draw x.under.now x.task x.priority x.mask c.of_priority-own.result.number c.of_priority-own.ensures c.in-Drawn.is c.test_bit.result c.test_bit.ensures
+    by_draw x.under.now x.task x.priority x.mask c.of_priority-own.result.number c.of_priority-own.ensures c.in-Drawn.is c.eq.result c.test_bit.result (c.eq.ensures ∙ names_is c.in-Drawn.new x.task) c.test_bit.ensures

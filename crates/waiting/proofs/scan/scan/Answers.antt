@@ -7,8 +7,7 @@ use native.Mathlib.Nat.{suc-ne-zero, suc_inj}
 use native.Mathlib.Omega.{arith}
 use lib.Arith.{lt_of_le-ne}
 use lib.Dec.{ltb, leb, eqb}
-use lib.ListN.{length, get_or, take}
-use lib.Seq.{get_or-take, length-take-le}
+use lib.ListN.{length, get_or}
 use borrow.Author.Tests.{lt-ltb, le-ltb, eqb-true, eqb-false, leb-true, leb-false}
 use Rattle.bits.proofs.Tests.{and_both}
 use Rattle.laws.proofs.Lists.{falling_at}
@@ -27,13 +26,6 @@ self h = omega arith
 
 same : {k : ℕ} → k ≤ k
 same = omega arith
-
-inside : {k n l : ℕ} → k < n → l ≡ n → k < l
-inside h e = omega arith
-
--- one step on
-on : {k n : ℕ} → k < n → (1 ≤ k + 1) × (k + 1 ≤ n) × (n - (k + 1) < n - k)
-on h = (omega arith, omega arith, omega arith)
 
 -- one more index
 more : (P : ℕ → Type 0) (at : ℕ) → ((k : ℕ) → 1 ≤ k → k < at → P k) → P at → (k : ℕ) → 1 ≤ k → k < at + 1 → P k
@@ -69,38 +61,29 @@ length_tail : (xs : List ℕ) (n : ℕ) → length xs ≡ suc n → length (tail
 length_tail [] n e = absurd (suc-ne-zero n (sym e))
 length_tail (x ∷ xs) n e = suc_inj e
 
-module _ (want : ℕ → Bool) (ps ms row : List ℕ) (count : ℕ) (ok : Searchable ps ms row count) where
-  at_queue : (k : ℕ) → suc k < count → get_or (tail (take count row)) k 0 ≡ get_or row (suc k) 0
-  at_queue k h = get_d_tail (take count row) k ∙ get_or-take count row (suc k) 0 h
-
-  size : length (tail (take count row)) ≡ count - 1
-  size = length_tail (take count row) (count - 1) (length-take-le count row ok.most ∙ omega (arith, ok.some))
+module _ (want : ℕ → Bool) (ps ms row : List ℕ) (ok : Searchable ps ms row) where
+  size : length (tail row) ≡ length row - 1
+  size = length_tail row (length row - 1) (omega (arith, ok.some))
 
   -- the walk ends at `at`: none before it is wanted, and it is the end or wanted
-  scan_is : (at : ℕ) → 1 ≤ at → at ≤ count → ((k : ℕ) → 1 ≤ k → k < at → want (get_or row k 0) ≡ false)
-      → (at < count → want (get_or row at 0) ≡ true) → suc (ahead want (tail (take count row))) ≡ at
+  scan_is : (at : ℕ) → 1 ≤ at → at ≤ length row → ((k : ℕ) → 1 ≤ k → k < at → want (get_or row k 0) ≡ false)
+      → (at < length row → want (get_or row at 0) ≡ true) → suc (ahead want (tail row)) ≡ at
   scan_is at h l before here =
-      ap suc (ahead_is want (tail (take count row)) (at - 1) (omega (arith, size))
-      (λ k b. ap want (at_queue k (omega arith)) ∙ before (suc k) (omega arith) (omega arith))
-      (λ b. let in_reach : at < count = omega (arith, size) in
-      ap want (at_queue (at - 1) (omega arith)) ∙ ap (λ (k : ℕ). want (get_or row k 0)) (let e : suc (at - 1) ≡ at = omega arith in e) ∙ here in_reach))
+      ap suc (ahead_is want (tail row) (at - 1) (omega (arith, size))
+      (λ k b. ap want (get_d_tail row k) ∙ before (suc k) (omega arith) (omega arith))
+      (λ b. let in_reach : at < length row = omega (arith, size) in
+      ap want (get_d_tail row (at - 1)) ∙ ap (λ (k : ℕ). want (get_or row k 0)) (let e : suc (at - 1) ≡ at = omega arith in e) ∙ here in_reach))
       ∙ (let e : suc (at - 1) ≡ at = omega arith in e)
 
   -- a task that is not above the floor: none behind it is
-  past : (floor : ℕ) → ((u : ℕ) → get_or ps u 0 ≤ floor → want u ≡ false) → (at : ℕ) → at < count → ((k : ℕ) → 1 ≤ k → k < at → want (get_or row k 0) ≡ false) → get_or ps (get_or row at 0) 0 ≤ floor
-      → (k : ℕ) → 1 ≤ k → k < count → want (get_or row k 0) ≡ false
+  past : (floor : ℕ) → ((u : ℕ) → get_or ps u 0 ≤ floor → want u ≡ false) → (at : ℕ) → at < length row → ((k : ℕ) → 1 ≤ k → k < at → want (get_or row k 0) ≡ false) → get_or ps (get_or row at 0) 0 ≤ floor
+      → (k : ℕ) → 1 ≤ k → k < length row → want (get_or row k 0) ≡ false
   past floor too_low at l before low k h m = go (leb at k) refl
     where
-      whole : length (take count row) ≡ count
-      whole = length-take-le count row ok.most
-
       go : (b : Bool) → leb at k ≡ b → want (get_or row k 0) ≡ false
       go true e =
-          let behind : at ≤ k = leb-true at k e in
-          let falls : get_or ps (get_or (take count row) k 0) 0 ≤ get_or ps (get_or (take count row) at 0) 0 =
-          falling_at (λ (u : ℕ). get_or ps u 0) (take count row) ok.falling at k behind (omega (arith, whole)) in
-          let same_k : get_or ps (get_or (take count row) k 0) 0 ≡ get_or ps (get_or row k 0) 0 = ap (λ (u : ℕ). get_or ps u 0) (get_or-take count row k 0 m) in
-          let same_at : get_or ps (get_or (take count row) at 0) 0 ≡ get_or ps (get_or row at 0) 0 = ap (λ (u : ℕ). get_or ps u 0) (get_or-take count row at 0 l) in
+          let falls : get_or ps (get_or row k 0) 0 ≤ get_or ps (get_or row at 0) 0 =
+          falling_at (λ (u : ℕ). get_or ps u 0) row ok.falling at k (leb-true at k e) m in
           too_low (get_or row k 0) (omega arith)
       go false e = before k h (leb-false at k e)
 
@@ -109,15 +92,15 @@ abbrev wants : Start → ℕ → Bool
 wants s = let a = s.args in wanted a.test a.under.now a.prio.now a.mask.now a.floor
 
 pub loop-at-init : goal.loop-at-init
-loop-at-init c = (omega arith, c.requires.searchable.some, (λ k h l. absurd (none h l)))
+loop-at-init c = λ k h l. absurd (none h l)
 
 pub returns-then-priority-floor : goal.returns-then-priority-floor
 returns-then-priority-floor c =
     let a = c.args in
     let l = c.loop-at in
-    sym (scan_is (wants (goal.at.returns-then-priority-floor c).Start) a.prio.now a.mask.now a.row.now a.count c.requires.searchable a.count c.requires.searchable.some same
-    (λ k h m. past (wants (goal.at.returns-then-priority-floor c).Start) a.prio.now a.mask.now a.row.now a.count c.requires.searchable a.floor
-    (too_low a.test a.under.now a.prio.now a.mask.now a.floor) l.at c.loop-at-test.true l.invariant.2 (omega (arith, c.if-priority-floor.true)) k h m) (λ h. absurd (self h)))
+    sym (scan_is (wants (goal.at.returns-then-priority-floor c).Start) a.prio.now a.mask.now a.row.now c.requires.searchable (length a.row.now) c.requires.searchable.some same
+    (λ k h m. past (wants (goal.at.returns-then-priority-floor c).Start) a.prio.now a.mask.now a.row.now c.requires.searchable a.floor
+    (too_low a.test a.under.now a.prio.now a.mask.now a.floor) l.at c.loop-at-test.true l.invariant (omega (arith, c.if-priority-floor.true)) k h m) (λ h. absurd (self h)))
 
 pub passes-requires : goal.passes-requires
 passes-requires c = record {
@@ -128,26 +111,22 @@ passes-requires c = record {
 pub returns-then-passes : goal.returns-then-passes
 returns-then-passes c =
     let a = c.args in
-    let l = c.loop-at in
-    sym (scan_is (wants (goal.at.returns-then-passes c).Start) a.prio.now a.mask.now a.row.now a.count c.requires.searchable l.at l.invariant.0 l.invariant.1 l.invariant.2
-    (λ h. is_wanted a.test a.under.now a.prio.now a.mask.now a.floor (get_or a.row.now l.at 0) c.if-priority-floor.false (sym c.passes.ensures ∙ c.if-passes.true)))
-
-pub loop-at-smaller : goal.loop-at-smaller
-loop-at-smaller c = (on c.loop-at-test.true).2
+    let l = c.loop-at in (
+      omega arith,
+      sym (scan_is (wants (goal.at.returns-then-passes c).Start) a.prio.now a.mask.now a.row.now c.requires.searchable l.at (omega arith) (omega arith) l.invariant
+          (λ h. is_wanted a.test a.under.now a.prio.now a.mask.now a.floor (get_or a.row.now l.at 0) c.if-priority-floor.false (sym c.passes.ensures ∙ c.if-passes.true))),
+    )
 
 pub loop-at-preserved : goal.loop-at-preserved
 loop-at-preserved c =
     let a = c.args in
-    let l = c.loop-at in (
-      (on c.loop-at-test.true).0,
-      (on c.loop-at-test.true).1,
-      more (λ (k : ℕ). wants (goal.at.loop-at-preserved c).Start (get_or a.row.now k 0) ≡ false) l.at l.invariant.2
-          (unwanted a.test a.under.now a.prio.now a.mask.now a.floor (get_or a.row.now l.at 0) (sym c.passes.ensures ∙ c.if-passes.false)),
-    )
+    let l = c.loop-at in
+    more (λ (k : ℕ). wants (goal.at.loop-at-preserved c).Start (get_or a.row.now k 0) ≡ false) l.at l.invariant
+    (unwanted a.test a.under.now a.prio.now a.mask.now a.floor (get_or a.row.now l.at 0) (sym c.passes.ensures ∙ c.if-passes.false))
 
 pub returns : goal.returns
 returns c =
     let a = c.args in
     let l = c.loop-at in
-    sym (scan_is (wants (goal.at.returns c).Start) a.prio.now a.mask.now a.row.now a.count c.requires.searchable a.count c.requires.searchable.some same
-    (λ k h m. l.invariant.2 k h (omega arith)) (λ h. absurd (self h)))
+    sym (scan_is (wants (goal.at.returns c).Start) a.prio.now a.mask.now a.row.now c.requires.searchable (length a.row.now) c.requires.searchable.some same
+    (λ k h m. l.invariant k h (omega arith)) (λ h. absurd (self h)))

@@ -27,7 +27,7 @@ module _ (c : After-task_fits) where
 
 -- ---- the needs
 pub loop-t-init : goal.loop-t-init
-loop-t-init c = (omega arith, λ k h. absurd (none h))
+loop-t-init c = λ k h. absurd (none h)
 
 pub task_fits-requires : goal.task_fits-requires
 task_fits-requires c = c.requires.n_le_cpu_places
@@ -40,7 +40,7 @@ returns-then-not-task_fits c = λ p.
 pub loop-t-preserved : goal.loop-t-preserved
 loop-t-preserved c =
     let passed = c.if-not-task_fits.false in
-    (omega arith, below_more _ _ c.loop-t.invariant.1 (tested (goal.at.loop-t-preserved c).After-task_fits ∙ passed))
+    below_more _ _ c.loop-t.invariant (tested (goal.at.loop-t-preserved c).After-task_fits ∙ passed)
 
 pub returns : goal.returns
-returns c = λ k h. c.loop-t.invariant.1 k (omega arith)
+returns c = λ k h. c.loop-t.invariant k (omega arith)

@@ -2,14 +2,11 @@
 -- Assumes nothing.
 use mathlib.Core.Path.{◌≡◌}
 use mathlib.Core.Bool.{true}
-use Prim.Native.Nat.{ℕ, ◌-◌, ◌≤◌, ◌<◌}
+use Prim.Native.Nat.{ℕ, ◌<◌}
 use Rattle.rowcheck.specs.Placed.{marked}
 use Rattle.wellformed.specs.Passes.{task_at, sound_when}
 use Rattle.wellformed.proofs.columns.columns_fit.Given as goal
 
 abbrev pub invariant-loop-t : goal.invariant-loop-t
 invariant-loop-t l =
-    (l.t ≤ 512) × ((k : ℕ) → k < l.t → sound_when (marked l.marks k) l.n l.full l.online (task_at l.state l.policy l.prio l.cpu l.slice l.mask k) ≡ true)
-
-abbrev pub decreases-loop-t : goal.decreases-loop-t
-decreases-loop-t l = 512 - l.t
+    (k : ℕ) → k < l.t → sound_when (marked l.marks k) l.n l.full l.online (task_at l.state l.policy l.prio l.cpu l.slice l.mask k) ≡ true

@@ -4,7 +4,7 @@ use mathlib.Core.Path.{◌≡◌}
 use mathlib.Core.Bool.{cond}
 use Rattle.bits.specs.Bit.{bit}
 use Rattle.rules.specs.Machine.{invalid}
-use Prim.Native.Nat.{ℕ, ◌-◌, ◌≤◌, ◌<◌}
+use Prim.Native.Nat.{ℕ, ◌<◌}
 use lib.ListN.{length, get_or}
 use Rattle.rowcheck.specs.Placed.{mark, Row}
 use Rattle.wellformed.specs.Passes.{part, standings}
@@ -12,9 +12,6 @@ use Rattle.wellformed.proofs.rows.rows_fit.Given as goal
 
 abbrev pub invariant-loop-c : goal.invariant-loop-c
 invariant-loop-c l =
-    (l.c ≤ l.n) × (length l.marks ≡ 8) ×
+    (length l.marks ≡ 8) ×
     ((k : ℕ) → k < l.c → Row l.state l.prio l.cpu (part l.rows k) k (get_or l.counts k 0) (get_or l.flags k 0) (cond (bit l.online k) (get_or l.flags k 0) invalid) (get_or l.levels k 0)) ×
     ((u : ℕ) → mark l.marks u ≡ standings l.counts l.rows l.c u)
-
-abbrev pub decreases-loop-c : goal.decreases-loop-c
-decreases-loop-c l = l.n - l.c

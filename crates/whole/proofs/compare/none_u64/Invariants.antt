@@ -2,7 +2,7 @@
 -- Assumes nothing.
 use mathlib.Core.Path.{◌≡◌}
 use mathlib.Core.List.{List}
-use Prim.Native.Nat.{ℕ, ◌-◌, ◌≤◌}
+use Prim.Native.Nat.{ℕ}
 use lib.Dec.{eqb}
 use lib.ListN.{length, take, replicate}
 use Rattle.whole.specs.Whole.{same}
@@ -12,8 +12,5 @@ use Rattle.whole.proofs.compare.none_u64.Given as goal
 abbrev pub zeros : List ℕ → List ℕ
 zeros a = replicate (length a) 0
 
-abbrev pub invariant-loop-i : goal.invariant-loop-i
-invariant-loop-i l = (l.i ≤ length l.a) × (eqb l.word 0 ≡ same (take l.i l.a) (take l.i (zeros l.a)))
-
-abbrev pub decreases-loop-i : goal.decreases-loop-i
-decreases-loop-i l = length l.a - l.i
+abbrev pub invariant-loop-x : goal.invariant-loop-x
+invariant-loop-x l = eqb l.word 0 ≡ same (take l.x-index l.a) (take l.x-index (zeros l.a))

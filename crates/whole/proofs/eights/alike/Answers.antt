@@ -9,6 +9,6 @@ use Rattle.whole.proofs.eights.alike.Goals as goal
 pub returns : goal.returns
 returns c = λ t.
     let x = c.args in
-    let bytes = c.shared_slice_known-1 in
-    eight_alike x.s.now (λ i. (bytes.given i).fits) x.at _ (bytes.given x.at).fits
-    (sym c.eight.ensures ∙ eqb-true c.eight.result (c.wide.result * 72340172838076673) t ∙ ap (λ (v : ℕ). v * 72340172838076673) c.wide.ensures)
+    let bytes = c.type_inv.s in
+    eight_alike x.s.now (λ i. (bytes i).fits) x.at _ (bytes x.at).fits
+    (sym c.eight.ensures ∙ eqb-true c.eight.result (c.from.result * 72340172838076673) t ∙ ap (λ (v : ℕ). v * 72340172838076673) c.from.ensures)

@@ -1,19 +1,20 @@
 -- `whole::eights::eight` meets its contract.
 -- Assumes nothing.
-use Prim.Native.Nat.{◌+◌}
+use mathlib.Core.Path.{◌≡◌}
+use Prim.Native.Nat.{◌+◌, ◌*◌}
+use lib.ListN.{get_or}
 use native.Mathlib.Omega.{arith}
-use Rattle.whole.proofs.Numbers.{number_eight, number_lt}
+use Rattle.whole.proofs.Numbers.{number_four, number_eight}
 use Rattle.whole.proofs.eights.eight.Goals as goal
 
 pub returns : goal.returns
-returns c = omega (arith, c.four.ensures, c.four-2.ensures, number_eight c.args.s.now c.args.at)
-
-pub overflow_mul-result : goal.overflow_mul-result
-overflow_mul-result c =
-    omega (arith, c.four-2.ensures, number_lt c.args.s.now (λ i. (c.shared_slice_known-1.given i).fits) (c.args.at + 4))
-
-pub overflow_add-result : goal.overflow_add-result
-overflow_add-result c =
-    let b = c.shared_slice_known-1 in
+returns c =
     let s = c.args.s.now in
-    omega (arith, c.four.ensures, c.four-2.ensures, number_lt s (λ i. (b.given i).fits) c.args.at, number_lt s (λ i. (b.given i).fits) (c.args.at + 4))
+    let at = c.args.at in
+    let five : at + 4 + 1 ≡ at + 5 = omega arith in
+    let six : at + 4 + 2 ≡ at + 6 = omega arith in
+    let seven : at + 4 + 3 ≡ at + 7 = omega arith in
+    let high : get_or s (at + 4) 0 + 256 * (get_or s (at + 4 + 1) 0 + 256 * (get_or s (at + 4 + 2) 0 + 256 * get_or s (at + 4 + 3) 0))
+    ≡ get_or s (at + 4) 0 + 256 * (get_or s (at + 5) 0 + 256 * (get_or s (at + 6) 0 + 256 * get_or s (at + 7) 0)) =
+    rw (five, six, seven) in
+    omega (arith, c.from_le_bytes.ensures, number_eight s at, number_four s at, number_four s (at + 4), high)

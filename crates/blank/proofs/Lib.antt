@@ -1,2 +1,0 @@
--- The law behind filling a table.
-pub mod Filling

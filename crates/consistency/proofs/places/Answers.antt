@@ -1,1 +1,0 @@
--- `consistency::places` meets its contract. Assumes nothing.

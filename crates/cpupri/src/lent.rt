@@ -1,2 +1,0 @@
-// The record's four tables, lent.
-pub use levels::lent::set_level;

@@ -1,0 +1,2 @@
+-- The laws of the task that runs on a CPU.
+pub mod Running

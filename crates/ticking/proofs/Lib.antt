@@ -1,0 +1,2 @@
+-- The task that runs, as it was read.
+pub mod Ran
