@@ -3,6 +3,7 @@
 #![tactic(auto)]
 
 ghost use Rattle.std.specs.Prelude.{◌≡◌, false, cond, is_some, unwrap_or, option_map, length, set};
+ghost use Rattle.levels.specs.Record.{lent_record};
 ghost use Rattle.cpupri.specs.Record.{record_of, Whole};
 ghost use Rattle.rules.specs.Machine.{Machine, task_places, enqueue_at, dequeue};
 ghost use Rattle.rules.specs.Plan.{carried};
@@ -11,7 +12,7 @@ ghost use Rattle.placement.specs.Held.{Queues, followed};
 ghost use Rattle.parts.specs.Optional.{LeavingIf, EnteringIf, FollowingIf};
 ghost use Rattle.carrying.specs.Holds.{Holds, Carriable, Placeable};
 
-use cpupri::record::Record;
+use cpupri::record::{CPUS, LEVELS, WORDS};
 use evacuation::{bring_online, take_offline};
 use parts::{enter, leave, set_flag};
 use placement::follow;
@@ -29,28 +30,37 @@ pub fn carry_out(
     counts: &mut [u16],
     flags: &mut [u8],
     online: &mut u64,
-    record: &mut Record,
+    masks: &mut [u64; LEVELS],
+    tallies: &mut [u8; LEVELS],
+    words: &mut [u64; WORDS],
+    levels: &mut [u8; CPUS],
     decision: Decision,
 )
-    requires { (m : Machine) × Carriable m state.old policy.old prio.old cpu.old slice.old mask.old
-        rows.old counts.old flags.old online.old «record».old decision }
-    ensures { (m : Machine)
+    requires { let r = lent_record masks.old tallies.old words.old levels.old in
+        ((m : Machine) × Carriable m state.old policy.old prio.old cpu.old slice.old mask.old
+        rows.old counts.old flags.old online.old r decision) }
+    ensures { let r = lent_record masks.old tallies.old words.old levels.old in
+        let q = lent_record masks.new tallies.new words.new levels.new in
+        ((m : Machine)
         → Carriable m state.old policy.old prio.old cpu.old slice.old mask.old rows.old counts.old flags.old
-        online.old «record».old decision
+        online.old r decision
         → Holds (did decision m) state.new policy.new prio.new cpu.new slice.new mask.new
-        rows.new counts.new flags.new online.new «record».new }
+        rows.new counts.new flags.new online.new q) }
 {
     match decision {
         Decision::Place(plan) => place(
-            state, policy, prio, cpu, slice, mask, rows, counts, flags, record, plan,
+            state, policy, prio, cpu, slice, mask, rows, counts, flags, masks, tallies, words,
+            levels, plan,
         ),
         Decision::Flag { cpu: at, work } => set_flag(
-            prio, rows, counts, flags, *online, record, at, work,
+            prio, rows, counts, flags, *online, masks, tallies, words, levels, at, work,
         ),
         Decision::Offline { cpu: at } => take_offline(
-            prio, cpu, mask, rows, counts, flags, online, record, at,
+            prio, cpu, mask, rows, counts, flags, online, masks, tallies, words, levels, at,
         ),
-        Decision::Online { cpu: at } => bring_online(prio, rows, counts, flags, online, record, at),
+        Decision::Online { cpu: at } => bring_online(
+            prio, rows, counts, flags, online, masks, tallies, words, levels, at,
+        ),
         Decision::Nothing => {}
     }
 }
@@ -65,16 +75,22 @@ fn place(
     rows: &mut [u16],
     counts: &mut [u16],
     flags: &[u8],
-    record: &mut Record,
+    masks: &mut [u64; LEVELS],
+    tallies: &mut [u8; LEVELS],
+    words: &mut [u64; WORDS],
+    levels: &mut [u8; CPUS],
     plan: Plan,
 )
-    requires { (m : Machine) × Placeable m state.old policy.old prio.old cpu.old slice.old mask.old
-        rows.old counts.old flags.now «record».old (as_plan plan) }
-    ensures { let p = as_plan plan in
+    requires { let r = lent_record masks.old tallies.old words.old levels.old in
+        ((m : Machine) × Placeable m state.old policy.old prio.old cpu.old slice.old mask.old
+        rows.old counts.old flags.now r (as_plan plan)) }
+    ensures { let r = lent_record masks.old tallies.old words.old levels.old in
+        let q = lent_record masks.new tallies.new words.new levels.new in
+        let p = as_plan plan in
         ((m : Machine)
-        → Placeable m state.old policy.old prio.old cpu.old slice.old mask.old rows.old counts.old flags.now «record».old p
+        → Placeable m state.old policy.old prio.old cpu.old slice.old mask.old rows.old counts.old flags.now r p
         → Holds (carried p m) state.new policy.new prio.new cpu.new slice.new mask.new
-        rows.new counts.new flags.now m.online «record».new) }
+        rows.new counts.new flags.now m.online q) }
 {
     let becomes = plan.becomes;
     leave_if(plan.leaves, rows, counts, plan.task);
@@ -89,8 +105,28 @@ fn place(
         becomes,
     );
     enter_if(plan.enters, rows, counts, prio, cpu, plan.task);
-    follow_if(plan.leaves, rows, counts, prio, flags, record);
-    follow_if(target_of(plan.enters), rows, counts, prio, flags, record);
+    follow_if(
+        plan.leaves,
+        rows,
+        counts,
+        prio,
+        flags,
+        masks,
+        tallies,
+        words,
+        levels,
+    );
+    follow_if(
+        target_of(plan.enters),
+        rows,
+        counts,
+        prio,
+        flags,
+        masks,
+        tallies,
+        words,
+        levels,
+    );
 }
 
 // The task leaves the row of its origin, if it has one.
@@ -145,14 +181,20 @@ fn follow_if(
     counts: &[u16],
     prio: &[u8],
     flags: &[u8],
-    record: &mut Record,
+    masks: &mut [u64; LEVELS],
+    tallies: &mut [u8; LEVELS],
+    words: &mut [u64; WORDS],
+    levels: &mut [u8; CPUS],
 )
     requires following { (m : Machine) × FollowingIf (is_some cpu) m prio.now flags.now counts.now rows.now (unwrap_or cpu 0) }
-    requires whole { Whole «record».old }
-    ensures { (m : Machine) → FollowingIf (is_some cpu) m prio.now flags.now counts.now rows.now (unwrap_or cpu 0)
-        → «record».new ≡ record_of (followed (is_some cpu) (unwrap_or cpu 0) m «record».old.levels) }
+    requires whole { let r = lent_record masks.old tallies.old words.old levels.old in
+        (Whole r) }
+    ensures { let r = lent_record masks.old tallies.old words.old levels.old in
+        let q = lent_record masks.new tallies.new words.new levels.new in
+        ((m : Machine) → FollowingIf (is_some cpu) m prio.now flags.now counts.now rows.now (unwrap_or cpu 0)
+        → q ≡ record_of (followed (is_some cpu) (unwrap_or cpu 0) m r.levels)) }
 {
     if let Some(at) = cpu {
-        follow(rows, counts, prio, flags, record, at);
+        follow(rows, counts, prio, flags, masks, tallies, words, levels, at);
     }
 }

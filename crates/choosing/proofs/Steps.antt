@@ -17,7 +17,6 @@ use Rattle.cpupri.specs.Level.{level_count}
 use Rattle.cpupri.specs.Found.{lowest_level, allowed_at, Marked}
 use Rattle.cpupri.proofs.Search.{marked_by}
 use Rattle.cpupri.specs.Record.{masks_of}
-use Rattle.levels.specs.declared.record.Record.{Record}
 use Rattle.rules.specs.Lists.{In, delete}
 use Rattle.rules.specs.Machine.{Machine, task_of, prio_of, row, is_online, idle_level, level, levels, level_of, row_level, allowed, dequeue, runnable, task_places, highest_priority}
 use Rattle.rules.specs.Migration.{Move, Chosen, waiting, movable, mover, move_of, next_of, destination, next}
@@ -305,9 +304,9 @@ module _ (m : Machine) (w : WellFormed m) where
 
 -- ---- in terms of the lent tables
 
-module _ {m : Machine} {n : ℕ} {ps cs ms ks flat : List ℕ} {r : Record} (k : Choosing m n ps cs ms ks flat r) where
+module _ {m : Machine} {n : ℕ} {ps cs ms ks flat lm lw ls : List ℕ} (k : Choosing m n ps cs ms ks flat lm lw ls) where
   -- what is stored is the machine's
-  stored : (t : code.Option ℕ) → step_if r.masks ps cs ms t ≡ step_if (masks_of (levels m)) m.prio m.cpu m.mask t
+  stored : (t : code.Option ℕ) → step_if lm ps cs ms t ≡ step_if (masks_of (levels m)) m.prio m.cpu m.mask t
   stored t =
       ap (λ (x : List ℕ). step_if x ps cs ms t) k.masks
       ∙ ap (λ (x : List ℕ). step_if (masks_of (levels m)) x cs ms t) k.looking.prio
@@ -315,7 +314,7 @@ module _ {m : Machine} {n : ℕ} {ps cs ms ks flat : List ℕ} {r : Record} (k :
       ∙ ap (λ (x : List ℕ). step_if (masks_of (levels m)) m.prio m.cpu x t) k.looking.mask
 
   -- the words say which levels have a CPU
-  pub words_mark : Marked r.masks r.words
+  pub words_mark : Marked lm lw
   words_mark = marked_by (levels m) k.masks k.words
 
   -- a column is as long as there are task places
@@ -339,7 +338,7 @@ module _ {m : Machine} {n : ℕ} {ps cs ms ks flat : List ℕ} {r : Record} (k :
   new_stored fallen None l = tt
   new_stored fallen (Some t) l = waits_stored t (l.waits t refl)
 
-  pub leads_best : (b : code.Option Mover) → BestOf (movable m) m n b → Leads m r.masks ps cs ms (task_of_best b)
+  pub leads_best : (b : code.Option Mover) → BestOf (movable m) m n b → Leads m lm ps cs ms (task_of_best b)
   leads_best b best = record { step = stored (task_of_best b) ∙ best_leads m k.looking.well b (all b best); stored = can b (all b best) }
     where
       all : (b : code.Option Mover) → BestOf (movable m) m n b → BestOf (movable m) m m.n b
@@ -349,13 +348,13 @@ module _ {m : Machine} {n : ℕ} {ps cs ms ks flat : List ℕ} {r : Record} (k :
       can None f = tt
       can (Some b) f = waits_stored b.task (in_tails b.task b.origin m.rows f.waits)
 
-  pub leads_new : (new : code.Option ℕ) → Limited m none (ruled new) → Leads m r.masks ps cs ms new
+  pub leads_new : (new : code.Option ℕ) → Limited m none (ruled new) → Leads m lm ps cs ms new
   leads_new new l = record { step = stored new ∙ new_leads m k.looking.well new l; stored = new_stored none new l }
 
-  pub leads_drawn : (c : ℕ) (new : code.Option ℕ) → Limited m (some c) (ruled new) → (who : code.Option ℕ) → ruled who ≡ mover_of (step_if r.masks ps cs ms new)
-      → (b : code.Option Mover) → BestOf (meant m (Drawn c (get_or r.levels c 0) who)) m n b → Leads m r.masks ps cs ms (task_of_best b)
+  pub leads_drawn : (c : ℕ) (new : code.Option ℕ) → Limited m (some c) (ruled new) → (who : code.Option ℕ) → ruled who ≡ mover_of (step_if lm ps cs ms new)
+      → (b : code.Option Mover) → BestOf (meant m (Drawn c (get_or ls c 0) who)) m n b → Leads m lm ps cs ms (task_of_best b)
   leads_drawn c new l who is b best =
       leads_best b
-      (best_same (meant m (Drawn c (get_or r.levels c 0) who)) (movable m) m n
-      (drawn_is m k.looking.well c new l who (is ∙ ap mover_of (stored new)) (get_or r.levels c 0)
+      (best_same (meant m (Drawn c (get_or ls c 0) who)) (movable m) m n
+      (drawn_is m k.looking.well c new l who (is ∙ ap mover_of (stored new)) (get_or ls c 0)
       (ap (λ (x : List ℕ). get_or x c 0) k.levels ∙ levels_below m c (l.small c refl))) b best)

@@ -6,7 +6,6 @@ use Rattle.bits.specs.Bit.{lowest}
 use Rattle.cpupri.specs.Level.{level_of}
 use Rattle.cpupri.specs.Found.{lowest_level, allowed_at}
 use Rattle.cpupri.specs.Record.{masks_of, counts_of, words_of}
-use Rattle.levels.specs.declared.record.Record.{Record}
 use Rattle.rules.specs.Machine.{Machine, levels, task_places, highest_priority}
 use Rattle.rules.specs.Migration.{Move, next}
 use Rattle.movelog.specs.Entry.{move_by}
@@ -14,20 +13,20 @@ use Rattle.mover.specs.Foremost.{Looking}
 use Rattle.movelog.specs.declared.Step.{Step}
 
 -- the lent tables hold the machine m of n CPUs: besides, the tasks' CPUs and the record's masks, words and levels
-pub record Choosing (m : Machine) (n : ℕ) (ps cs ms ks flat : List ℕ) (r : Record) : Type 0 where
+pub record Choosing (m : Machine) (n : ℕ) (ps cs ms ks flat lm lw ls : List ℕ) : Type 0 where
   pub looking : Looking m ps ms ks flat
   pub cpus : n ≡ m.n
   pub cpu : cs ≡ m.cpu
-  pub masks : r.masks ≡ masks_of (levels m)
-  pub words : r.words ≡ words_of (counts_of (levels m))
-  pub levels : r.levels ≡ levels m
+  pub masks : lm ≡ masks_of (levels m)
+  pub words : lw ≡ words_of (counts_of (levels m))
+  pub levels : ls ≡ levels m
 
 -- the same where the tasks' masks and their CPUs are not lent, and no level is read
-pub record Watching (m : Machine) (n : ℕ) (ps ks flat : List ℕ) (r : Record) : Type 0 where
+pub record Watching (m : Machine) (n : ℕ) (ps ks flat lm lw : List ℕ) : Type 0 where
   pub looking : Looking m ps m.mask ks flat
   pub cpus : n ≡ m.n
-  pub masks : r.masks ≡ masks_of (levels m)
-  pub words : r.words ≡ words_of (counts_of (levels m))
+  pub masks : lm ≡ masks_of (levels m)
+  pub words : lw ≡ words_of (counts_of (levels m))
 
 -- ---- steps
 

@@ -8,11 +8,11 @@ ghost use Rattle.rules.specs.Machine.{Machine, task_places, highest_priority};
 ghost use Rattle.rules.specs.Migration.{next};
 ghost use Rattle.cpupri.specs.Found.{Marked};
 ghost use Rattle.hinting.specs.Hinted.{Among, Hinted, ruled};
-ghost use Rattle.choosing.specs.Choosing.{Choosing, Watching, Leads, as_move, mover_of, step_by, step_if};
+ghost use Rattle.choosing.specs.Choosing.{Choosing, Watching, Leads, as_move, mover_of, step_if};
 
 use cpupri::find::lowest_level;
 use cpupri::level::Level;
-use cpupri::record::{LEVELS, Record};
+use cpupri::record::{CPUS, LEVELS, WORDS};
 use hinting::hint::Candidates;
 use movelog::Step;
 use mover::pick::{Above, pick, who_above};
@@ -26,16 +26,17 @@ pub fn sharpen(
     prio: &[u8],
     rows: &[u16],
     counts: &[u16],
-    record: &Record,
+    masks: &[u64; LEVELS],
+    words: &[u64; WORDS],
 ) -> Option<Candidates>
-    requires { (m : Machine) × Watching m n prio.now counts.now rows.now «record».now }
-    ensures { (m : Machine) → Watching m n prio.now counts.now rows.now «record».now
+    requires { (m : Machine) × Watching m n prio.now counts.now rows.now masks.now words.now }
+    ensures { (m : Machine) → Watching m n prio.now counts.now rows.now masks.now words.now
         → Hinted m hint → Hinted m result }
 {
     if hint.is_some() {
         return hint;
     }
-    let Some(lowest) = lowest_level(&record.masks, &record.words, LEVELS, u64::MAX) else {
+    let Some(lowest) = lowest_level(masks, words, LEVELS, u64::MAX) else {
         return Some(Candidates::NOBODY);
     };
     match who_above(lowest as u8, n, prio, rows, counts) {
@@ -57,15 +58,17 @@ pub fn choose(
     mask: &[u64],
     rows: &[u16],
     counts: &[u16],
-    record: &Record,
+    masks: &[u64; LEVELS],
+    words: &[u64; WORDS],
+    levels: &[u8; CPUS],
 ) -> Option<Step>
-    requires { (m : Machine) × (Choosing m n prio.now cpu.now mask.now counts.now rows.now «record».now
+    requires { (m : Machine) × (Choosing m n prio.now cpu.now mask.now counts.now rows.now masks.now words.now levels.now
         × Among m few) }
-    ensures { (m : Machine) → Choosing m n prio.now cpu.now mask.now counts.now rows.now «record».now
+    ensures { (m : Machine) → Choosing m n prio.now cpu.now mask.now counts.now rows.now masks.now words.now levels.now
         → Among m few → as_move result ≡ next m }
 {
-    let task = foremost(few, n, prio, cpu, mask, rows, counts, record)?;
-    step_of(task, prio, cpu, mask, record)
+    let task = foremost(few, n, prio, cpu, mask, rows, counts, masks, words, levels);
+    step_of(task, prio, cpu, mask, masks, words)
 }
 
 // The mover; if there is none, none or the one task that could have been it.
@@ -77,17 +80,21 @@ fn foremost(
     mask: &[u64],
     rows: &[u16],
     counts: &[u16],
-    record: &Record,
+    masks: &[u64; LEVELS],
+    words: &[u64; WORDS],
+    levels: &[u8; CPUS],
 ) -> Option<u16>
-    requires { (m : Machine) × (Choosing m n prio.now cpu.now mask.now counts.now rows.now «record».now
+    requires { (m : Machine) × (Choosing m n prio.now cpu.now mask.now counts.now rows.now masks.now words.now levels.now
         × Among m few) }
-    ensures { (m : Machine) → Choosing m n prio.now cpu.now mask.now counts.now rows.now «record».now
-        → Among m few → Leads m «record».now.masks prio.now cpu.now mask.now result }
+    ensures { (m : Machine) → Choosing m n prio.now cpu.now mask.now counts.now rows.now masks.now words.now levels.now
+        → Among m few → Leads m masks.now prio.now cpu.now mask.now result }
 {
     let Some(fallen) = few.fallen else {
         return few.new;
     };
-    draw(fallen, few.new, n, prio, cpu, mask, rows, counts, record)
+    draw(
+        fallen, few.new, n, prio, cpu, mask, rows, counts, masks, words, levels,
+    )
 }
 
 // The same where the CPU `fallen` fell: the foremost of those that may use it and are above its level, and of the new task if that is movable.
@@ -100,21 +107,23 @@ fn draw(
     mask: &[u64],
     rows: &[u16],
     counts: &[u16],
-    record: &Record,
+    masks: &[u64; LEVELS],
+    words: &[u64; WORDS],
+    levels: &[u8; CPUS],
 ) -> Option<u16>
-    requires { (m : Machine) × (Choosing m n prio.now cpu.now mask.now counts.now rows.now «record».now
+    requires { (m : Machine) × (Choosing m n prio.now cpu.now mask.now counts.now rows.now masks.now words.now levels.now
         × Limited m (some fallen) (ruled new)) }
-    ensures { (m : Machine) → Choosing m n prio.now cpu.now mask.now counts.now rows.now «record».now
-        → Limited m (some fallen) (ruled new) → Leads m «record».now.masks prio.now cpu.now mask.now result }
+    ensures { (m : Machine) → Choosing m n prio.now cpu.now mask.now counts.now rows.now masks.now words.now levels.now
+        → Limited m (some fallen) (ruled new) → Leads m masks.now prio.now cpu.now mask.now result }
 {
-    let movable = if_movable(new, prio, cpu, mask, record);
+    let movable = if_movable(new, prio, cpu, mask, masks, words);
     let test = Test::Drawn {
         cpu: fallen,
-        level: record.levels[fallen],
+        level: levels[fallen],
         new: movable,
     };
     // no level's CPUs are asked for by this test
-    let mover = pick(test, n, prio, mask, rows, counts, &record.masks)?;
+    let mover = pick(test, n, prio, mask, rows, counts, masks)?;
     Some(mover.task)
 }
 
@@ -124,37 +133,46 @@ fn if_movable(
     prio: &[u8],
     cpu: &[u8],
     mask: &[u64],
-    record: &Record,
+    masks: &[u64; LEVELS],
+    words: &[u64; WORDS],
 ) -> Option<u16>
     requires prio_len { length prio.now ≡ task_places }
     requires cpu_len { length cpu.now ≡ task_places }
     requires mask_len { length mask.now ≡ task_places }
     requires task { IfSome new (λ t. (t < task_places) × (get_or prio.now t 0 ≤ highest_priority)) }
-    requires marked { Marked «record».now.masks «record».now.words }
-    ensures { ruled result ≡ mover_of (step_if «record».now.masks prio.now cpu.now mask.now new) }
+    requires marked { Marked masks.now words.now }
+    ensures { ruled result ≡ mover_of (step_if masks.now prio.now cpu.now mask.now new) }
 {
-    let step = step_of(new?, prio, cpu, mask, record)?;
+    let step = step_of(new, prio, cpu, mask, masks, words)?;
     Some(step.task)
 }
 
 // The step of the task to one of its allowed CPUs of the lowest level, among equals the lowest-numbered; none if
-// the task is not movable.
-pub fn step_of(task: u16, prio: &[u8], cpu: &[u8], mask: &[u64], record: &Record) -> Option<Step>
+// the task is not movable, or there is none.
+pub fn step_of(
+    task: Option<u16>,
+    prio: &[u8],
+    cpu: &[u8],
+    mask: &[u64],
+    masks: &[u64; LEVELS],
+    words: &[u64; WORDS],
+) -> Option<Step>
     requires prio_len { length prio.now ≡ task_places }
     requires cpu_len { length cpu.now ≡ task_places }
     requires mask_len { length mask.now ≡ task_places }
-    requires task { (task < task_places) × (get_or prio.now task 0 ≤ highest_priority) }
-    requires marked { Marked «record».now.masks «record».now.words }
-    ensures { as_move result ≡ step_by «record».now.masks prio.now cpu.now mask.now task }
+    requires task { IfSome task (λ t. (t < task_places) × (get_or prio.now t 0 ≤ highest_priority)) }
+    requires marked { Marked masks.now words.now }
+    ensures { as_move result ≡ step_if masks.now prio.now cpu.now mask.now task }
 {
+    let task = task?;
     let at = task as usize;
     let below = Level::of_priority(prio[at]).number as usize;
     let allowed = mask[at];
-    let level = lowest_level(&record.masks, &record.words, below, allowed)?;
+    let level = lowest_level(masks, words, below, allowed)?;
     Some(Step {
         task,
         origin: cpu[at] as usize,
-        target: bits::lowest_bit(record.masks[level] & allowed) as usize,
+        target: bits::lowest_bit(masks[level] & allowed) as usize,
         displaced: level as u8,
     })
 }

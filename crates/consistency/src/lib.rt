@@ -32,7 +32,7 @@ pub fn is_consistent<'a>(
 {
     let unused = Level::UNUSED.number as usize;
     let mut left = [0; LEVELS];
-    left.copy_from_slice(masks);
+    left.copy_from_slice(&masks[..LEVELS]); // by a constant: so the zeros above are not written
     let mut right_counts = [0; LEVELS];
     let mut right_words = [0; WORDS];
     if !gather(

@@ -6,5 +6,6 @@
 
 pub mod consistent;
 pub mod find;
+pub mod lent;
 pub mod level;
 pub mod record;

@@ -34,17 +34,17 @@ fn one_cpu<W: Write>(out: &mut W) -> io::Result<()> {
 // CPU 0 runs priority 50, CPU 1 ordinary work, CPU 2 nothing; then CPU 2 goes to priority 99.
 fn three_cpus<W: Write>(out: &mut W) -> io::Result<()> {
     let mut r = Record::fresh(3);
-    r.set_level(0, Level::of_priority(50));
-    r.set_level(1, Level::ORDINARY);
+    r = r.set_level(0, Level::of_priority(50));
+    r = r.set_level(1, Level::ORDINARY);
     ask(out, 3, r, 52, 7)?;
     ask(out, 3, r, 52, 3)?;
     ask(out, 3, r, 52, 1)?;
     ask(out, 3, r, 53, 1)?;
     ask(out, 3, r, 1, 2)?;
-    r.set_level(2, Level::of_priority(99));
+    r = r.set_level(2, Level::of_priority(99));
     ask(out, 3, r, 101, 7)?;
     ask(out, 3, r, 101, 4)?;
-    r.set_level(2, Level::INVALID);
+    r = r.set_level(2, Level::INVALID);
     ask(out, 2, r, 101, 3)?;
     ask(out, 3, r, 101, 7)
 }
@@ -54,7 +54,7 @@ fn all_cpus<W: Write>(out: &mut W) -> io::Result<()> {
     let mut r = Record::fresh(64);
     for cpu in 0..64 {
         let priority = (99 - cpu) as u8;
-        r.set_level(cpu, Level::of_priority(priority));
+        r = r.set_level(cpu, Level::of_priority(priority));
     }
     ask(out, 64, r, 101, 0xffff_ffff_ffff_ffff)?;
     ask(out, 64, r, 101, 0x0000_0000_ffff_fff0)?;

@@ -9,14 +9,14 @@ ghost use Rattle.rules.specs.Events.{event as numbers};
 ghost use Rattle.laws.specs.Still.{Still};
 ghost use Rattle.lenttables.specs.Lent.{lent};
 
-use cpupri::record::{CPUS, LEVELS, Record, WORDS};
+use cpupri::record::{CPUS, LEVELS, WORDS};
 use handling::handle;
 use plans::event::Event;
 use rules::answer::ACCEPTED;
 
 // One event on tables that pass the check, and pass it again afterwards: 0 with the number of moves, or a refusal,
 // 3 to 12, with 0 moves, which changes nothing. `settled` says that no task is movable, as on fresh tables and after an
-// accepted event. The record is lent as its four tables: copied in, and back.
+// accepted event.
 #[unsafe(no_mangle)]
 pub extern "C" fn qoriwesh_inner_event(
     settled: bool,
@@ -62,12 +62,6 @@ pub extern "C" fn qoriwesh_inner_event(
         let t = lent full state.new policy.new prio.new cpu.new slice.new mask.new rows.new counts.new flags.new online.new log.new in
         (Still n s → Still n t) }
 {
-    let mut record = Record {
-        masks: *masks,
-        counts: *tallies,
-        words: *words,
-        levels: *levels,
-    };
     let event = Event {
         kind,
         who,
@@ -75,15 +69,10 @@ pub extern "C" fn qoriwesh_inner_event(
         b,
         mask: k,
     };
-    let lent = &mut record;
     let done = handle(
-        settled, n, state, policy, prio, cpu, slice, mask, rows, counts, flags, online, log, lent,
-        full, event,
+        settled, n, state, policy, prio, cpu, slice, mask, rows, counts, flags, online, log, masks,
+        tallies, words, levels, full, event,
     );
-    *masks = record.masks;
-    *tallies = record.counts;
-    *words = record.words;
-    *levels = record.levels;
     match done {
         Ok(count) => {
             *moves = count;

@@ -1,5 +1,6 @@
 // The ten tables that a caller lends, their lengths, and the full slice. They are parameters of their own wherever they are lent: C lends them one
-// by one, and of one struct of references no call could be lent two (the borrow rules behind a proof do not cover it), nor could it be passed on.
+// by one. Of one struct of references no call could be lent two of which it only reads one (the borrow rules behind a proof do not cover it), and who
+// makes it would learn what was written only if each function that takes it promised that its references stay the same ones.
 #![tactic(auto)]
 
 ghost use Rattle.std.specs.Prelude.{◌≡◌, ℕ};

@@ -2,5 +2,6 @@
 // touches a constant number of places.
 #![tactic(auto)]
 
+pub mod lent;
 pub mod level;
 pub mod record;

@@ -3,6 +3,7 @@ ghost use Rattle.std.specs.Prelude.{◌≡◌, true, ◌≤◌, ◌<◌, set};
 ghost use Rattle.levels.specs.Level.{known, cpu_places};
 ghost use Rattle.levels.specs.Record.{record_of, fresh_levels, Whole};
 
+use super::lent::set_level;
 use super::level::Level;
 
 pub const LEVELS: usize = 102;
@@ -36,37 +37,34 @@ impl Record {
             levels: [Level::INVALID.number; CPUS],
         };
         for cpu in 0..n {
-            r.set_level(cpu, Level::IDLE);
+            set_level(
+                &mut r.masks,
+                &mut r.counts,
+                &mut r.words,
+                &mut r.levels,
+                cpu,
+                Level::IDLE,
+            );
         }
         r
     }
 
-    // The CPU goes to another level: out of the old level's mask, count and bit, and into the new one's. Either
-    // level may be INVALID.
-    pub fn set_level(&mut self, cpu: usize, level: Level)
-        requires whole { Whole self.old }
+    // The record with the CPU at another level. Either level may be INVALID.
+    pub fn set_level(self, cpu: usize, level: Level) -> Record
+        requires whole { Whole self }
         requires cpu_lt_cpu_places { cpu < cpu_places }
         requires number_value { known level.number ≡ true }
-        ensures { self.new ≡ record_of (set self.old.levels cpu level.number) }
+        ensures { result ≡ record_of (set self.levels cpu level.number) }
     {
-        // out of the old level
-        let old = self.levels[cpu];
-        if old != Level::INVALID.number {
-            let o = old as usize;
-            self.masks[o] = bits::clear_bit(self.masks[o], cpu);
-            let count = self.counts[o] - 1;
-            self.counts[o] = count;
-            self.words[o / 64] = bits::put_bit(self.words[o / 64], o % 64, count != 0);
-            self.levels[cpu] = Level::INVALID.number;
-        }
-        // and into the new one
-        if level == Level::INVALID {
-            return;
-        }
-        let l = level.number as usize;
-        self.masks[l] = bits::set_bit(self.masks[l], cpu);
-        self.counts[l] += 1;
-        self.words[l / 64] = bits::set_bit(self.words[l / 64], l % 64);
-        self.levels[cpu] = level.number;
+        let mut r = self;
+        set_level(
+            &mut r.masks,
+            &mut r.counts,
+            &mut r.words,
+            &mut r.levels,
+            cpu,
+            level,
+        );
+        r
     }
 }

@@ -14,7 +14,7 @@ ghost use Rattle.handling.specs.Moves.{moves_of};
 
 use checker::check::check_lent;
 use cpupri::record::Record;
-use handling::handle;
+pub use handling::handle;
 use plans::event::Event;
 use rules::answer::Refusal;
 
@@ -119,7 +119,10 @@ pub fn event_lent(
         flags,
         online,
         log,
-        record,
+        &mut record.masks,
+        &mut record.counts,
+        &mut record.words,
+        &mut record.levels,
         full as u16,
         event,
     )

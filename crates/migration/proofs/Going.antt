@@ -41,7 +41,7 @@ none_taken {m} {ps} {cs} {ms} {ks} {flat} {old} {r} s h =
 -- ---- what a step is chosen from
 
 pub to_choose : {m : Machine} {n : ℕ} {ps cs ms ks flat : List ℕ} {r : Record} → Settling m ps cs ms ks flat r → n ≡ m.n
-    → Choosing m n ps cs ms ks flat r
+    → Choosing m n ps cs ms ks flat r.masks r.words r.levels
 unfolding record_of
 to_choose s h =
     record {
@@ -53,7 +53,7 @@ to_choose s h =
       levels = ap (λ (q : Record). q.levels) s.held.levels;
     }
 
-pub to_watch : {m : Machine} {n : ℕ} {ps cs ms ks flat : List ℕ} {r : Record} → Settling m ps cs ms ks flat r → n ≡ m.n → Watching m n ps ks flat r
+pub to_watch : {m : Machine} {n : ℕ} {ps cs ms ks flat : List ℕ} {r : Record} → Settling m ps cs ms ks flat r → n ≡ m.n → Watching m n ps ks flat r.masks r.words
 unfolding record_of
 to_watch s h =
     record {
@@ -120,7 +120,7 @@ module _ {m : Machine} (w : WellFormed m) {ps cs ms ks flat old log : List ℕ} 
     origin_low = subst (λ (i : ℕ). v.origin < i) same_n (origin_small e v here takes)
 
   -- what the next step is chosen from
-  pub choosing : {n : ℕ} → n ≡ m.n → Choosing e n ps cs ms ks flat r
+  pub choosing : {n : ℕ} → n ≡ m.n → Choosing e n ps cs ms ks flat r.masks r.words r.levels
   choosing h = to_choose (record { well = here; held = g.held; cpus = g.cpus; masks = g.masks }) (h ∙ sym same_n)
 
   -- no step applies: the steps have ended

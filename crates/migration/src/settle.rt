@@ -1,5 +1,6 @@
 // Steps until none applies, each with an entry in the move log.
 ghost use Rattle.std.specs.Prelude.{◌≡◌, length, set};
+ghost use Rattle.levels.specs.Record.{lent_record};
 ghost use Rattle.rules.specs.Machine.{Machine, task_places};
 ghost use Rattle.rules.specs.Migration.{next, migrate, settle_all};
 ghost use Rattle.rules.specs.Tables.{log_places};
@@ -13,7 +14,7 @@ ghost use Rattle.migration.specs.Settling.{Settling, Stepping, Ended};
 
 use choosing::{choose, sharpen, step_of};
 use cpupri::find::lowest_level;
-use cpupri::record::{LEVELS, Record};
+use cpupri::record::{CPUS, LEVELS, WORDS};
 use hinting::hint::{Candidates, after, nobody};
 use movelog::{Step, note};
 use mover::pick::pick;
@@ -31,17 +32,27 @@ pub fn settle(
     rows: &mut [u16],
     counts: &mut [u16],
     log: &mut [u16],
-    record: &mut Record,
+    masks: &mut [u64; LEVELS],
+    tallies: &mut [u8; LEVELS],
+    words: &mut [u64; WORDS],
+    levels: &mut [u8; CPUS],
 ) -> usize
-    requires settling { (m : Machine) × (Settling m prio.now cpu.old mask.now counts.old rows.old «record».old
-        × (n ≡ m.n) × Hinted m hint) }
+    requires settling { let r = lent_record masks.old tallies.old words.old levels.old in
+        ((m : Machine) × (Settling m prio.now cpu.old mask.now counts.old rows.old r
+        × (n ≡ m.n) × Hinted m hint)) }
     requires log_len { length log.old ≡ log_places }
-    ensures { (m : Machine) → Settling m prio.now cpu.old mask.now counts.old rows.old «record».old → n ≡ m.n → Hinted m hint
-        → Ended (settle_all m) prio.now cpu.new counts.new rows.new log.old log.new result «record».new }
+    ensures { let r = lent_record masks.old tallies.old words.old levels.old in
+        let q = lent_record masks.new tallies.new words.new levels.new in
+        ((m : Machine) → Settling m prio.now cpu.old mask.now counts.old rows.old r → n ≡ m.n → Hinted m hint
+        → Ended (settle_all m) prio.now cpu.new counts.new rows.new log.old log.new result q) }
 {
-    match sharpen(hint, n, prio, rows, counts, record) {
-        Some(few) => follow(few, n, prio, cpu, mask, rows, counts, log, record),
-        None => search(n, prio, cpu, mask, rows, counts, log, record),
+    match sharpen(hint, n, prio, rows, counts, masks, words) {
+        Some(few) => follow(
+            few, n, prio, cpu, mask, rows, counts, log, masks, tallies, words, levels,
+        ),
+        None => search(
+            n, prio, cpu, mask, rows, counts, log, masks, tallies, words, levels,
+        ),
     }
 }
 
@@ -55,23 +66,31 @@ fn follow(
     rows: &mut [u16],
     counts: &mut [u16],
     log: &mut [u16],
-    record: &mut Record,
+    masks: &mut [u64; LEVELS],
+    tallies: &mut [u8; LEVELS],
+    words: &mut [u64; WORDS],
+    levels: &mut [u8; CPUS],
 ) -> usize
-    requires settling { (m : Machine) × (Settling m prio.now cpu.old mask.now counts.old rows.old «record».old
-        × (n ≡ m.n) × Among m few) }
+    requires settling { let r = lent_record masks.old tallies.old words.old levels.old in
+        ((m : Machine) × (Settling m prio.now cpu.old mask.now counts.old rows.old r
+        × (n ≡ m.n) × Among m few)) }
     requires log_len { length log.old ≡ log_places }
-    ensures { (m : Machine) → Settling m prio.now cpu.old mask.now counts.old rows.old «record».old → n ≡ m.n → Among m few
-        → Ended (settle_all m) prio.now cpu.new counts.new rows.new log.old log.new result «record».new }
+    ensures { let r = lent_record masks.old tallies.old words.old levels.old in
+        let q = lent_record masks.new tallies.new words.new levels.new in
+        ((m : Machine) → Settling m prio.now cpu.old mask.now counts.old rows.old r → n ≡ m.n → Among m few
+        → Ended (settle_all m) prio.now cpu.new counts.new rows.new log.old log.new result q) }
 {
     if nobody(few) {
         return 0;
     }
     let mut moves = 0;
     let mut known = few;
-    while let Some(step) = choose(known, n, prio, cpu, mask, rows, counts, record) {
+    while let Some(step) = choose(
+        known, n, prio, cpu, mask, rows, counts, masks, words, levels,
+    ) {
         known = after(known, rows, step.task, step.target);
         note(log, moves, step);
-        migrate(rows, counts, prio, cpu, record, step);
+        migrate(rows, counts, prio, cpu, masks, tallies, words, levels, step);
         moves += 1;
     }
     moves
@@ -87,25 +106,33 @@ fn search(
     rows: &mut [u16],
     counts: &mut [u16],
     log: &mut [u16],
-    record: &mut Record,
+    masks: &mut [u64; LEVELS],
+    tallies: &mut [u8; LEVELS],
+    words: &mut [u64; WORDS],
+    levels: &mut [u8; CPUS],
 ) -> usize
-    requires settling { (m : Machine) × (Settling m prio.now cpu.old mask.now counts.old rows.old «record».old × (n ≡ m.n)) }
+    requires settling { let r = lent_record masks.old tallies.old words.old levels.old in
+        ((m : Machine) × (Settling m prio.now cpu.old mask.now counts.old rows.old r × (n ≡ m.n))) }
     requires log_len { length log.old ≡ log_places }
-    ensures { (m : Machine) → Settling m prio.now cpu.old mask.now counts.old rows.old «record».old → n ≡ m.n
-        → Ended (settle_all m) prio.now cpu.new counts.new rows.new log.old log.new result «record».new }
+    ensures { let r = lent_record masks.old tallies.old words.old levels.old in
+        let q = lent_record masks.new tallies.new words.new levels.new in
+        ((m : Machine) → Settling m prio.now cpu.old mask.now counts.old rows.old r → n ≡ m.n
+        → Ended (settle_all m) prio.now cpu.new counts.new rows.new log.old log.new result q) }
 {
-    let Some(level) = lowest_level(&record.masks, &record.words, LEVELS, u64::MAX) else {
+    let Some(level) = lowest_level(masks, words, LEVELS, u64::MAX) else {
         return 0;
     };
     let lowest = level as u8;
     let mut under = [0; LEVELS];
-    fill(&record.masks, &mut under);
+    fill(masks, &mut under);
     let mut steps = 0;
-    while let Some(step) = next_step(lowest, n, prio, cpu, mask, rows, counts, &under, record) {
+    while let Some(step) = next_step(
+        lowest, n, prio, cpu, mask, rows, counts, &under, masks, words, levels,
+    ) {
         note(log, steps, step);
-        migrate(rows, counts, prio, cpu, record, step);
+        migrate(rows, counts, prio, cpu, masks, tallies, words, levels, step);
         let target = step.target;
-        rise(&mut under, target, step.displaced, record.levels[target]);
+        rise(&mut under, target, step.displaced, levels[target]);
         steps += 1;
     }
     steps
@@ -121,14 +148,17 @@ fn next_step(
     rows: &[u16],
     counts: &[u16],
     under: &[u64; LEVELS],
-    record: &Record,
+    masks: &[u64; LEVELS],
+    words: &[u64; WORDS],
+    levels: &[u8; CPUS],
 ) -> Option<Step>
-    requires { (m : Machine) × (Choosing m n prio.now cpu.now mask.now counts.now rows.now «record».now × Told m (Movable lowest) under.now) }
-    ensures { (m : Machine) → Choosing m n prio.now cpu.now mask.now counts.now rows.now «record».now → Told m (Movable lowest) under.now
-        → as_move result ≡ next m }
+    requires { (m : Machine) × (Choosing m n prio.now cpu.now mask.now counts.now rows.now masks.now words.now levels.now
+        × Told m (Movable lowest) under.now) }
+    ensures { (m : Machine) → Choosing m n prio.now cpu.now mask.now counts.now rows.now masks.now words.now levels.now
+        → Told m (Movable lowest) under.now → as_move result ≡ next m }
 {
     let mover = pick(Test::Movable { lowest }, n, prio, mask, rows, counts, under)?;
-    step_of(mover.task, prio, cpu, mask, record)
+    step_of(Some(mover.task), prio, cpu, mask, masks, words)
 }
 
 // One step: the mover leaves its row and enters the destination's. It waited, so its old CPU's level
@@ -138,15 +168,32 @@ fn migrate(
     counts: &mut [u16],
     prio: &[u8],
     cpus: &mut [u8],
-    record: &mut Record,
+    masks: &mut [u64; LEVELS],
+    tallies: &mut [u8; LEVELS],
+    words: &mut [u64; WORDS],
+    levels: &mut [u8; CPUS],
     step: Step,
 )
-    requires stepping { (m : Machine) × Stepping m prio.now counts.old rows.old «record».old (move_by step) }
+    requires stepping { let r = lent_record masks.old tallies.old words.old levels.old in
+        ((m : Machine) × Stepping m prio.now counts.old rows.old r (move_by step)) }
     requires cpus_len { length cpus.old ≡ task_places }
-    ensures held { (m : Machine) → Stepping m prio.now counts.old rows.old «record».old (move_by step)
-        → Held (migrate (move_by step) m) prio.now counts.new rows.new «record».new }
+    ensures held { let r = lent_record masks.old tallies.old words.old levels.old in
+        let q = lent_record masks.new tallies.new words.new levels.new in
+        ((m : Machine) → Stepping m prio.now counts.old rows.old r (move_by step)
+        → Held (migrate (move_by step) m) prio.now counts.new rows.new q) }
     ensures cpus_set { cpus.new ≡ set cpus.old step.task step.target }
 {
     runqueue::table::dequeue(rows, counts, step.origin, step.task);
-    placement::enter(rows, counts, prio, cpus, record, step.target, step.task);
+    placement::enter(
+        rows,
+        counts,
+        prio,
+        cpus,
+        masks,
+        tallies,
+        words,
+        levels,
+        step.target,
+        step.task,
+    );
 }

@@ -48,6 +48,11 @@ abbrev pub floor_of : ℕ → Option Mover → ℕ
 floor_of least None = least
 floor_of least (Some b) = b.priority
 
+-- any such priority: while there is none, one below all who wait and pass
+abbrev pub Floor : (ℕ → Bool) → Machine → ℕ → Option Mover → Type 0
+Floor q m floor None = (d : ℕ) → d < m.n → (u : ℕ) → In u (tail (row m d)) → q u ≡ true → floor < prio_of m u
+Floor q m floor (Some b) = floor ≡ b.priority
+
 -- ---- tails
 
 pub tail_in : (u : ℕ) (r : List ℕ) → In u (tail r) → In u r
@@ -364,6 +369,44 @@ module _ {m : Machine} {ps ms ks flat : List ℕ} (k : Looking m ps ms ks flat) 
         older None e old d l u i t = absurd (false≢true (sym (old d l u i) ∙ t))
         older (Some b) e f d l u i t = let low : prio_of m u ≤ b.priority = f.highest d l u i t in omega arith
 
+    -- the same for any priority that is to be beaten
+    kept_by : (best : Option Mover) (floor : ℕ) → Floor (meant m test) m floor best → BestOf (meant m test) m c best
+        → HigherIn (meant m test) m c floor None → BestOf (meant m test) m (suc c) best
+    kept_by None floor f old none =
+        below_next c (λ (d : ℕ). (u : ℕ) → In u (tail (row m d)) → meant m test u ≡ false) old
+        (λ u i. fails (meant m test u) (λ t.
+        let low : prio_of m u ≤ floor = none u i t in
+        let high : floor < prio_of m u = f c hc u i t in
+        omega arith))
+    kept_by (Some b) floor f old none = keep_best (Some b) floor f old none
+
+    beaten_by : (best : Option Mover) (floor : ℕ) → Floor (meant m test) m floor best → BestOf (meant m test) m c best
+        → (new : Mover) → Higher (meant m test) m c floor new → BestOf (meant m test) m (suc c) (Some new)
+    beaten_by None floor f old new h =
+        beat_best None (least test) refl old new
+        (record {
+          origin = h.origin;
+          waits = h.waits;
+          passes = h.passes;
+          prio = h.prio;
+          above = let high : least test < prio_of m new.task = above_least c hc new.task (tail_in new.task (row m c) h.waits) test under told h.passes in omega (arith, h.prio);
+          highest = h.highest;
+          earliest = h.earliest;
+        })
+    beaten_by (Some b) floor f old new h = beat_best (Some b) floor f old new h
+
+    -- the scan of a row for a task above that priority
+    module _ (best : Option Mover) (floor : ℕ) (is_floor : Floor (meant m test) m floor best) (old : BestOf (meant m test) m c best) (at : ℕ)
+        (is : at ≡ suc (ahead (wanted test under ps ms floor) (tail (lent_tasks flat c (get_or ks c 0))))) where
+      -- it came to the end: the best stays
+      pub kept : at ≡ get_or ks c 0 → BestOf (meant m test) m (suc c) best
+      kept e = kept_by best floor is_floor old (none_higher floor (lent_count c hc ∙ sym e ∙ is))
+
+      -- it ended before: the task there is the best
+      pub beaten : at < get_or ks c 0 → (new : Mover) → new.task ≡ get_or flat (c * 512 + at) 0 → new.origin ≡ c
+          → new.priority ≡ get_or ps (get_or flat (c * 512 + at) 0) 0 → BestOf (meant m test) m (suc c) (Some new)
+      beaten l new et eo ep = beaten_by best floor is_floor old new (one_higher floor at l is new et eo ep)
+
   -- before the first row none passes
   pub no_best : (q : ℕ → Bool) → BestOf q m 0 None
   no_best q d h = absurd (not-suc-le-zero h)
@@ -423,6 +466,11 @@ module _ {m : Machine} {ps ms ks flat : List ℕ} (k : Looking m ps ms ks flat) 
   first_low q c hc two floor h u i t =
       let l : level_of (prio_of m u) ≤ level_of floor = row_low c hc two (level_of floor) (omega arith) u i in omega arith
 
+  -- so the best of the rows before stays the best
+  pub kept_low : (test : Test) (under : List ℕ) → Told m test under → (c : ℕ) → c < m.n → 2 ≤ get_or ks c 0 → (best : Option Mover) (floor : ℕ)
+      → Floor (meant m test) m floor best → BestOf (meant m test) m c best → get_or ps (get_or flat (c * task_places + 1) 0) 0 ≤ floor → BestOf (meant m test) m (suc c) best
+  kept_low test under told c hc two best floor f old h = kept_by test under told c hc best floor f old (first_low (meant m test) c hc two floor h)
+
   -- there is no second one, or it is not
   pub none_second : (c : ℕ) → c < m.n → get_or ks c 0 ≡ 2 → (l : ℕ) → FirstAlone m l c
   none_second c hc two l u i up = omega (arith, place_lt u (tail (row m c)) i, tail_one (length_tail (row m c)))
@@ -470,6 +518,10 @@ module _ {m : Machine} {ps ms ks flat : List ℕ} (k : Looking m ps ms ks flat) 
         some_wait : (length (row m c) ≡ suc (length (tail (row m c)))) ⊎ (row m c ≡ []) → 0 < length (tail (row m c))
         some_wait (inl s) = omega (arith, row_count c hc)
         some_wait (inr z) = absurd (let size : get_or ks c 0 ≡ length (row m c) = row_count c hc in let e : length (row m c) ≡ 0 = ap length z in let no : ⊥ = omega arith in no)
+
+    -- the row has two tasks, and nobody was above the level before: its waiting task alone can be
+    pub row_adds_one : OnlyAbove m l c Nobody → get_or ks c 0 ≡ 2 → OnlyAbove m l (suc c) (One (get_or flat (c * task_places + 1) 0))
+    row_adds_one none is_two = row_adds_first none (none_second c hc is_two l)
 
   -- and then some rows in which nobody waits
   pub skip_only : (l c n : ℕ) (o : Option ℕ) (a : Above) → n ≡ m.n → c ≤ n → NextWaiting ks c n o → OnlyAbove m l c a → OnlyAbove m l (until n o) a

@@ -20,7 +20,8 @@ pub struct Mover {
 }
 
 // Of a machine of n CPUs. A row is left at the first task that cannot beat the best so far. `under` has the CPUs below each level; it is
-// read for a test of `Movable` only.
+// read for a test of `Movable` only. (Code of its own: within a replay's the walk along a row had too few registers.)
+#[inline(never)]
 pub fn pick(
     test: Test,
     n: usize,

@@ -31,10 +31,58 @@ pub struct Report {
     pub refused: u32,
 }
 
+// The report, or a refusal; and the record, as it was handed in on a refusal.
+#[derive(Clone, Copy)]
+pub struct Replayed {
+    pub report: Result<Report, Refusal>,
+    pub record: Record,
+}
+
 // Replays a recording. `times` gets the microseconds that each CPU had a real-time task, 0 from N on. Rows, counts and flags beyond
 // N stay as they were. Refused with 1 if a table has another length than that for 64 CPUs; then, and without a good first record,
-// nothing changes but `times`, which are 0.
+// nothing changes but `times`, which are 0. The record is handed in and back whole, by value: so the project rules it for the public entries.
 pub fn replay(
+    bytes: &[u8],
+    state: &mut [u8],
+    policy: &mut [u8],
+    prio: &mut [u8],
+    cpu: &mut [u8],
+    slice: &mut [u16],
+    mask: &mut [u64],
+    rows: &mut [u16],
+    counts: &mut [u16],
+    flags: &mut [u8],
+    online: &mut u64,
+    log: &mut [u16],
+    times: &mut [u64; CPUS],
+    given: Record,
+) -> Replayed
+    ensures { let s = lent 0 state.old policy.old prio.old cpu.old slice.old mask.old rows.old counts.old flags.old online.old log.old in
+        let t = lent 0 state.new policy.new prio.new cpu.new slice.new mask.new rows.new counts.new flags.new online.new log.new in
+        told_of result.report times.new result.«record» t ≡ replayed bytes.now given s }
+{
+    let mut record = given;
+    let report = replay_lent(
+        bytes,
+        state,
+        policy,
+        prio,
+        cpu,
+        slice,
+        mask,
+        rows,
+        counts,
+        flags,
+        online,
+        log,
+        &mut record,
+        times,
+    );
+    Replayed { report, record }
+}
+
+// The same of a record that is lent.
+pub fn replay_lent(
     bytes: &[u8],
     state: &mut [u8],
     policy: &mut [u8],

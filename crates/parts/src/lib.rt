@@ -1,13 +1,14 @@
-// The parts of a plan: a task leaves a row, it enters one, and a CPU's level follows; and a CPU's flag.
+// The parts of a plan: a task leaves a row, and it enters one; and a CPU's flag.
 #![tactic(auto)]
 
 ghost use Rattle.std.specs.Prelude.{◌≡◌, true, length, set};
+ghost use Rattle.levels.specs.Record.{lent_record};
 ghost use Rattle.cpupri.specs.Record.{record_of};
 ghost use Rattle.rules.specs.Machine.{Machine, task_places, levels as levels_of, with_flag, enqueue_at, dequeue as dequeued};
 ghost use Rattle.placement.specs.Held.{Queues};
 ghost use Rattle.parts.specs.Optional.{LeavingIf, EnteringIf, Flagging};
 
-use cpupri::record::Record;
+use cpupri::record::{CPUS, LEVELS, WORDS};
 use placement::follow;
 use runqueue::table::{dequeue, enqueue};
 
@@ -47,18 +48,26 @@ pub fn set_flag(
     counts: &[u16],
     flags: &mut [u8],
     online: u64,
-    record: &mut Record,
+    masks: &mut [u64; LEVELS],
+    tallies: &mut [u8; LEVELS],
+    words: &mut [u64; WORDS],
+    levels: &mut [u8; CPUS],
     cpu: usize,
     work: u8,
 )
-    requires { (m : Machine) × Flagging m prio.now rows.now counts.now flags.old online «record».old cpu work }
+    requires { let r = lent_record masks.old tallies.old words.old levels.old in
+        ((m : Machine) × Flagging m prio.now rows.now counts.now flags.old online r cpu work) }
     ensures flags_set { flags.new ≡ set flags.old cpu work }
-    ensures record_follows { (m : Machine) → Flagging m prio.now rows.now counts.now flags.old online «record».old cpu work
-        → «record».new ≡ record_of (levels_of (with_flag cpu work m)) }
+    ensures record_follows { let r = lent_record masks.old tallies.old words.old levels.old in
+        let q = lent_record masks.new tallies.new words.new levels.new in
+        ((m : Machine) → Flagging m prio.now rows.now counts.now flags.old online r cpu work
+        → q ≡ record_of (levels_of (with_flag cpu work m))) }
 {
     flags[cpu] = work;
     if !bits::test_bit(online, cpu) {
         return;
     }
-    follow(rows, counts, prio, flags, record, cpu);
+    follow(
+        rows, counts, prio, flags, masks, tallies, words, levels, cpu,
+    );
 }

@@ -3,6 +3,7 @@
 #![tactic(auto)]
 
 ghost use Rattle.std.specs.Prelude.{◌≡◌, ℕ, ◌*◌, ◌≤◌, ◌<◌, length, get_or, set};
+ghost use Rattle.levels.specs.Record.{lent_record};
 ghost use Rattle.cpupri.specs.Record.{record_of, Whole};
 ghost use Rattle.cpupri.specs.Level.{level_of};
 ghost use Rattle.rules.specs.Lists.{In};
@@ -10,8 +11,9 @@ ghost use Rattle.rules.specs.Machine.{Machine, task_places, highest_priority, le
 ghost use Rattle.runqueue.specs.Table.{HoldsRows, row_at};
 ghost use Rattle.placement.specs.Held.{Held, Entering, Following};
 
+use cpupri::lent::set_level;
 use cpupri::level::Level;
-use cpupri::record::Record;
+use cpupri::record::{CPUS, LEVELS, WORDS};
 
 // The CPU's level follows its row: it is that of the first task or, with an empty row, the ordinary-work flag. One that stays
 // the same is not written.
@@ -20,19 +22,25 @@ pub fn follow(
     counts: &[u16],
     prio: &[u8],
     flags: &[u8],
-    record: &mut Record,
+    masks: &mut [u64; LEVELS],
+    tallies: &mut [u8; LEVELS],
+    words: &mut [u64; WORDS],
+    levels: &mut [u8; CPUS],
     cpu: usize,
 )
     requires following { (m : Machine) × Following m prio.now flags.now counts.now rows.now cpu }
-    requires whole { Whole «record».old }
-    ensures { (m : Machine) → Following m prio.now flags.now counts.now rows.now cpu
-        → «record».new ≡ record_of (set «record».old.levels cpu (level m cpu)) }
+    requires whole { let r = lent_record masks.old tallies.old words.old levels.old in
+        (Whole r) }
+    ensures { let r = lent_record masks.old tallies.old words.old levels.old in
+        let q = lent_record masks.new tallies.new words.new levels.new in
+        ((m : Machine) → Following m prio.now flags.now counts.now rows.now cpu
+        → q ≡ record_of (set r.levels cpu (level m cpu))) }
 {
     let level = cpu_level(rows, counts, prio, flags, cpu);
-    if level.number == record.levels[cpu] {
+    if level.number == levels[cpu] {
         return;
     }
-    record.set_level(cpu, level);
+    set_level(masks, tallies, words, levels, cpu, level);
 }
 
 // The task enters the row of a CPU behind its equals, and that is then its CPU.
@@ -41,20 +49,26 @@ pub fn enter(
     counts: &mut [u16],
     prio: &[u8],
     cpus: &mut [u8],
-    record: &mut Record,
+    masks: &mut [u64; LEVELS],
+    tallies: &mut [u8; LEVELS],
+    words: &mut [u64; WORDS],
+    levels: &mut [u8; CPUS],
     cpu: usize,
     task: u16,
 )
-    requires entering { (m : Machine) × Entering m prio.now counts.old rows.old «record».old task cpu }
+    requires entering { let r = lent_record masks.old tallies.old words.old levels.old in
+        ((m : Machine) × Entering m prio.now counts.old rows.old r task cpu) }
     requires cpus_len { length cpus.old ≡ task_places }
-    ensures held { (m : Machine) → Entering m prio.now counts.old rows.old «record».old task cpu
-        → Held (enqueue task cpu m) prio.now counts.new rows.new «record».new }
+    ensures held { let r = lent_record masks.old tallies.old words.old levels.old in
+        let q = lent_record masks.new tallies.new words.new levels.new in
+        ((m : Machine) → Entering m prio.now counts.old rows.old r task cpu
+        → Held (enqueue task cpu m) prio.now counts.new rows.new q) }
     ensures cpus_set { cpus.new ≡ set cpus.old task cpu }
 {
     runqueue::table::enqueue(rows, counts, prio, cpu, task, false);
     cpus[task as usize] = cpu as u8;
     let level = first_level(rows, prio, cpu);
-    record.set_level(cpu, level);
+    set_level(masks, tallies, words, levels, cpu, level);
 }
 
 // The level of a CPU: that of the task it runs or, with an empty row, its ordinary-work flag.

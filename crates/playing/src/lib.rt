@@ -56,7 +56,23 @@ pub fn play(
     let mut course = Course { last: stamp, ..t };
     match handle(
         true, // from a fresh machine on no task is ever movable between two events
-        n, state, policy, prio, cpu, slice, mask, rows, counts, flags, online, log, record, t.full,
+        n,
+        state,
+        policy,
+        prio,
+        cpu,
+        slice,
+        mask,
+        rows,
+        counts,
+        flags,
+        online,
+        log,
+        &mut record.masks,
+        &mut record.counts,
+        &mut record.words,
+        &mut record.levels,
+        t.full,
         event,
     ) {
         Ok(moves) => course.moves += moves as u64,

@@ -65,7 +65,7 @@ pub extern "C" fn qoriwesh_replay(
     let mut record = EMPTY;
     load(level_masks, level_counts, level_words, levels, &mut record);
     let mut spent = [0u64; CPUS];
-    let replayed = night::replay(
+    let replayed = night::replay_lent(
         bytes,
         state,
         policy,

@@ -2,11 +2,12 @@
 #![tactic(auto)]
 
 ghost use Rattle.std.specs.Prelude.{◌≡◌, ℕ};
+ghost use Rattle.levels.specs.Record.{lent_record};
 ghost use Rattle.rules.specs.Machine.{Machine};
 ghost use Rattle.rules.specs.Events.{event};
 ghost use Rattle.effect.specs.Effected.{Lends, Effected};
 
-use cpupri::record::Record;
+use cpupri::record::{CPUS, LEVELS, WORDS};
 use deciding::read::{running, with_columns};
 use hinting::hint::Candidates;
 use queueing::requeue;
@@ -26,15 +27,20 @@ pub fn tick(
     rows: &mut [u16],
     counts: &[u16],
     flags: &[u8],
-    record: &Record,
+    masks: &[u64; LEVELS],
+    tallies: &[u8; LEVELS],
+    words: &[u64; WORDS],
+    levels: &[u8; CPUS],
     who: u32,
 ) -> Result<Candidates, Refusal>
-    requires { (m : Machine) × (Lends m state.now policy.now prio.now cpu.now slice.old mask.now
-        rows.old counts.now flags.now online «record».now × (n ≡ m.n) × (full ≡ m.full)) }
-    ensures { (m : Machine) (a b k : ℕ) → Lends m state.now policy.now prio.now cpu.now slice.old mask.now
-        rows.old counts.now flags.now online «record».now → n ≡ m.n → full ≡ m.full →
+    requires { let r = lent_record masks.now tallies.now words.now levels.now in
+        ((m : Machine) × (Lends m state.now policy.now prio.now cpu.now slice.old mask.now
+        rows.old counts.now flags.now online r × (n ≡ m.n) × (full ≡ m.full))) }
+    ensures { let r = lent_record masks.now tallies.now words.now levels.now in
+        ((m : Machine) (a b k : ℕ) → Lends m state.now policy.now prio.now cpu.now slice.old mask.now
+        rows.old counts.now flags.now online r → n ≡ m.n → full ≡ m.full →
         Effected m (event 7 who a b k) result state.now policy.now prio.now cpu.now slice.new mask.now
-        rows.new counts.now flags.now online «record».now }
+        rows.new counts.now flags.now online r) }
 {
     let first = running(n, rows, counts, who as usize);
     let runner = with_columns(state, policy, prio, cpu, slice, mask, first); // whose tick it is
@@ -52,7 +58,10 @@ pub fn tick(
         rows,
         counts,
         flags,
-        record,
+        masks,
+        tallies,
+        words,
+        levels,
         plan.task,
         entry.target,
     ))
@@ -71,15 +80,20 @@ pub fn yield_cpu(
     rows: &mut [u16],
     counts: &[u16],
     flags: &[u8],
-    record: &Record,
+    masks: &[u64; LEVELS],
+    tallies: &[u8; LEVELS],
+    words: &[u64; WORDS],
+    levels: &[u8; CPUS],
     who: u32,
 ) -> Result<Candidates, Refusal>
-    requires { (m : Machine) × (Lends m state.now policy.now prio.now cpu.now slice.now mask.now
-        rows.old counts.now flags.now online «record».now × (n ≡ m.n)) }
-    ensures { (m : Machine) (a b k : ℕ) → Lends m state.now policy.now prio.now cpu.now slice.now mask.now
-        rows.old counts.now flags.now online «record».now → n ≡ m.n →
+    requires { let r = lent_record masks.now tallies.now words.now levels.now in
+        ((m : Machine) × (Lends m state.now policy.now prio.now cpu.now slice.now mask.now
+        rows.old counts.now flags.now online r × (n ≡ m.n))) }
+    ensures { let r = lent_record masks.now tallies.now words.now levels.now in
+        ((m : Machine) (a b k : ℕ) → Lends m state.now policy.now prio.now cpu.now slice.now mask.now
+        rows.old counts.now flags.now online r → n ≡ m.n →
         Effected m (event 8 who a b k) result state.now policy.now prio.now cpu.now slice.now mask.now
-        rows.new counts.now flags.now online «record».now }
+        rows.new counts.now flags.now online r) }
 {
     let first = running(n, rows, counts, who as usize);
     let runner = with_columns(state, policy, prio, cpu, slice, mask, first);
@@ -91,7 +105,10 @@ pub fn yield_cpu(
         rows,
         counts,
         flags,
-        record,
+        masks,
+        tallies,
+        words,
+        levels,
         plan.task,
         who as usize,
     ))

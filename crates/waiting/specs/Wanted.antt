@@ -23,6 +23,11 @@ abbrev pub names : Option ℕ → ℕ → Bool
 names None u = false
 names (Some t) u = eqb t u
 
+-- the new task of a test, if it has one
+abbrev pub newly : Test → Option ℕ
+newly (Movable low) = None
+newly (Drawn c l new) = new
+
 -- in the rules' words; a CPU at a level is online
 abbrev pub meant : Machine → Test → ℕ → Bool
 meant m (Movable low) u = movable m u

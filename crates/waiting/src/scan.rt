@@ -1,10 +1,10 @@
 // The waiting tasks of one row.
-ghost use Rattle.std.specs.Prelude.{◌≡◌, MatchOption, suc, ◌-◌, ◌≤◌, ◌<◌, length};
+ghost use Rattle.std.specs.Prelude.{◌≡◌, ℕ, MatchOption, suc, ◌-◌, ◌≤◌, ◌<◌, eqb, length};
 ghost use mathlib.Core.List.{tail};
 ghost use Rattle.cpupri.specs.Level.{level_of};
-ghost use Rattle.rules.specs.Machine.{highest_priority};
+ghost use Rattle.rules.specs.Machine.{task_places, highest_priority};
 ghost use Rattle.ranking.specs.Row.{ahead};
-ghost use Rattle.waiting.specs.Wanted.{Asked, passing, wanted, least as least_of, Searchable};
+ghost use Rattle.waiting.specs.Wanted.{Asked, names, newly, passing, wanted, least as least_of, Searchable};
 
 use cpupri::level::Level;
 use cpupri::record::LEVELS;
@@ -40,6 +40,7 @@ pub fn scan(
         MatchOption result (length row.now ≡ end) (λ at. (at < length row.now) × (at ≡ end)) }
 {
     let count = row.len();
+    let new = new_of(test); // once, and not in each turn
     for at in 1..count {
         let task = row[at];
         let place = task as usize;
@@ -47,23 +48,38 @@ pub fn scan(
         if priority <= floor {
             return None;
         }
-        if passes(test, under, task, priority, mask[place]) {
+        if passes(test, new, under, task, priority, mask[place]) {
             return Some(at);
         }
     }
     None
 }
 
-// Whether a task of this priority and mask passes the test.
-fn passes(test: Test, under: &[u64; LEVELS], task: u16, priority: u8, mask: u64) -> bool
+// The task that passes whatever CPUs it may use; a number that no task has, if there is none.
+fn new_of(test: Test) -> u16
+    ensures { (u : ℕ) → u < task_places → eqb result u ≡ names (newly test) u }
+{
+    match test {
+        Test::Drawn {
+            cpu: _,
+            level: _,
+            new: Some(task),
+        } => task,
+        _ => u16::MAX,
+    }
+}
+
+// Whether a task of this priority and mask passes the test, of which `new` is the new task.
+fn passes(test: Test, new: u16, under: &[u64; LEVELS], task: u16, priority: u8, mask: u64) -> bool
     requires asked { Asked test }
+    requires new_is { eqb new task ≡ names (newly test) task }
     requires priority_le_highest_priority { priority ≤ highest_priority }
     ensures { result ≡ passing test under.now task priority mask }
 {
     let own = Level::of_priority(priority).number;
     match test {
         Test::Movable { lowest: _ } => under[own as usize] & mask != 0,
-        Test::Drawn { cpu, level, new } => (new == Some(task))
+        Test::Drawn { cpu, level, new: _ } => (new == task)
             | (bits::test_bit(mask, cpu) & (level < own)),
     }
 }

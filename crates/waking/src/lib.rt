@@ -2,11 +2,12 @@
 #![tactic(auto)]
 
 ghost use Rattle.std.specs.Prelude.{ℕ};
+ghost use Rattle.levels.specs.Record.{lent_record};
 ghost use Rattle.rules.specs.Machine.{Machine};
 ghost use Rattle.rules.specs.Events.{event};
 ghost use Rattle.effect.specs.Effected.{Lends, Effected};
 
-use cpupri::record::Record;
+use cpupri::record::{CPUS, LEVELS, WORDS};
 use deciding::read::task_at;
 use hinting::hint::Candidates;
 use queueing::{enter, leave};
@@ -24,14 +25,20 @@ pub fn wake(
     rows: &mut [u16],
     counts: &mut [u16],
     flags: &[u8],
-    record: &mut Record,
+    masks: &mut [u64; LEVELS],
+    tallies: &mut [u8; LEVELS],
+    words: &mut [u64; WORDS],
+    levels: &mut [u8; CPUS],
     who: u32,
 ) -> Result<Candidates, Refusal>
-    requires { (m : Machine) × Lends m state.old policy.now prio.now cpu.old slice.now mask.now rows.old counts.old flags.now online «record».old }
-    ensures { (m : Machine) (a b k : ℕ) → Lends m state.old policy.now prio.now cpu.old slice.now mask.now
-        rows.old counts.old flags.now online «record».old →
+    requires { let r = lent_record masks.old tallies.old words.old levels.old in
+        ((m : Machine) × Lends m state.old policy.now prio.now cpu.old slice.now mask.now rows.old counts.old flags.now online r) }
+    ensures { let r = lent_record masks.old tallies.old words.old levels.old in
+        let q = lent_record masks.new tallies.new words.new levels.new in
+        ((m : Machine) (a b k : ℕ) → Lends m state.old policy.now prio.now cpu.old slice.now mask.now
+        rows.old counts.old flags.now online r →
         Effected m (event 3 who a b k) result state.new policy.now prio.now cpu.new slice.now mask.now
-        rows.new counts.new flags.now online «record».new }
+        rows.new counts.new flags.now online q) }
 {
     let named = task_at(state, policy, prio, cpu, slice, mask, who as usize);
     let plan = lifecycle::wake(online, named, who)?;
@@ -43,7 +50,10 @@ pub fn wake(
         rows,
         counts,
         flags,
-        record,
+        masks,
+        tallies,
+        words,
+        levels,
         plan.task,
         plan.enters.unwrap().target,
     ))
@@ -60,15 +70,21 @@ pub fn sleep(
     rows: &mut [u16],
     counts: &mut [u16],
     flags: &[u8],
-    record: &mut Record,
+    masks: &mut [u64; LEVELS],
+    tallies: &mut [u8; LEVELS],
+    words: &mut [u64; WORDS],
+    levels: &mut [u8; CPUS],
     who: u32,
 ) -> Result<Candidates, Refusal>
-    requires { (m : Machine) × Lends m state.old policy.now prio.now cpu.now slice.now mask.now
-        rows.old counts.old flags.now m.online «record».old }
-    ensures { (m : Machine) (a b k : ℕ) → Lends m state.old policy.now prio.now cpu.now slice.now mask.now
-        rows.old counts.old flags.now m.online «record».old →
+    requires { let r = lent_record masks.old tallies.old words.old levels.old in
+        ((m : Machine) × Lends m state.old policy.now prio.now cpu.now slice.now mask.now
+        rows.old counts.old flags.now m.online r) }
+    ensures { let r = lent_record masks.old tallies.old words.old levels.old in
+        let q = lent_record masks.new tallies.new words.new levels.new in
+        ((m : Machine) (a b k : ℕ) → Lends m state.old policy.now prio.now cpu.now slice.now mask.now
+        rows.old counts.old flags.now m.online r →
         Effected m (event 4 who a b k) result state.new policy.now prio.now cpu.now slice.now mask.now
-        rows.new counts.new flags.now m.online «record».new }
+        rows.new counts.new flags.now m.online q) }
 {
     let named = task_at(state, policy, prio, cpu, slice, mask, who as usize);
     let plan = lifecycle::sleep(named, who)?;
@@ -80,7 +96,10 @@ pub fn sleep(
         rows,
         counts,
         flags,
-        record,
+        masks,
+        tallies,
+        words,
+        levels,
         plan.task,
         named.cpu as usize,
     ))

@@ -10,8 +10,9 @@ pub fn same_u64(a: &[u64], b: &[u64]) -> bool
     ensures { result ≡ same a.now b.now }
 {
     let mut word = 0;
-    for (x, y) in a.iter().zip(b) {
-        word |= x ^ y;
+    // by the length of b, which at the callers is a table of our own: a constant where it is compiled
+    for i in 0..b.len() {
+        word |= a[i] ^ b[i];
     }
     word == 0
 }

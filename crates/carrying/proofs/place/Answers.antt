@@ -1,6 +1,7 @@
 -- `carrying::place` meets its contract.
 -- Assumes nothing.
 use mathlib.Core.Path.{◌≡◌, sym, subst}
+use Rattle.levels.specs.Record.{lent_record}
 use Rattle.cpupri.specs.Record.{record_of, Whole}
 use Rattle.placement.specs.Held.{followed}
 use Rattle.parts.specs.Optional.{FollowingIf}
@@ -56,6 +57,6 @@ returns c =
     let r = c.follow_if.ensures _ (follows_origin l o c.write.ensures.prio_value e) in
     let n = carried (as_plan c.args.plan) m in
     let is = c.target_of.ensures in
-    let q = taken c.args.plan.enters is (λ b d. c.follow_if-2.new.«record» ≡ record_of (followed b d n c.follow_if.new.«record».levels))
+    let q = taken c.args.plan.enters is (λ b d. (lent_record c.follow_if-2.new.masks c.follow_if-2.new.tallies c.follow_if-2.new.words c.follow_if-2.new.levels) ≡ record_of (followed b d n c.follow_if.new.levels))
     (c.follow_if-2.ensures n (given c.args.plan.enters is (λ b d. FollowingIf b n c.write.new.prio c.args.flags.now c.enter_if.new.counts c.enter_if.new.rows d) (follows_target l o c.write.ensures.prio_value e))) in
     placed l o c.write.ensures.prio_value e c.write.ensures.state_value c.write.ensures.policy_value c.write.ensures.cpu_value c.write.ensures.slice_value c.write.ensures.mask_value c.enter_if.ensures.cpus_set r q

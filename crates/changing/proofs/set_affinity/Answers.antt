@@ -4,6 +4,7 @@ use mathlib.Core.Path.{◌≡◌, refl, sym, ap, ◌∙◌}
 use Prim.Native.Nat.{ℕ}
 use native.Mathlib.Omega.{arith}
 use lib.ListN.{set}
+use Rattle.levels.specs.Record.{lent_record}
 use Rattle.std.specs.Prelude.{None, Some, Result, Ok, Err}
 use Rattle.rules.specs.Machine.{Machine, Task, task_of}
 use Rattle.rules.specs.Events.{event, effect, set_affinity}
@@ -27,7 +28,7 @@ module _ (c : Start) where
   Lent m =
       let x = c.args in
       Lends m x.state.now x.policy.now x.prio.now x.cpu.now x.slice.now x.mask.now x.rows.now x.counts.now x.flags.now x.online
-      x.«record».now
+      (lent_record x.masks.now x.tallies.now x.words.now x.levels.now)
 
   judged : (m : Machine) (a b : ℕ) (r : Result Written Refusal) → let e = event 6 c.args.who a b c.args.k in
       PlannedAs set_affinity m e r → Planned (refusal m e) (effect e m) m r
@@ -81,7 +82,7 @@ module _ (c : In_ok-plan) where
     abbrev Goes : Plan → Type 0
     Goes p =
         let x = c.args in
-        Moving m p x.state.now x.prio.now x.cpu.now x.rows.now x.counts.now x.flags.now x.«record».now
+        Moving m p x.state.now x.prio.now x.cpu.now x.rows.now x.counts.now x.flags.now (lent_record x.masks.now x.tallies.now x.words.now x.levels.now)
 
     -- where it does not enter a row
     module _ (z : q.enters ≡ None) where

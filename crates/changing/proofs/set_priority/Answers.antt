@@ -4,6 +4,7 @@ use mathlib.Core.Path.{◌≡◌, refl, sym, ap, ◌∙◌, subst}
 use Prim.Native.Nat.{ℕ}
 use native.Mathlib.Omega.{arith}
 use lib.ListN.{set}
+use Rattle.levels.specs.Record.{lent_record}
 use Rattle.std.specs.Prelude.{Option, None, Some, Result, Ok, Err, IfSome}
 use Rattle.rules.specs.Machine.{Machine, Task, task_of}
 use Rattle.rules.specs.Events.{event, effect, set_priority}
@@ -27,7 +28,7 @@ module _ (c : Start) where
   Lent m =
       let x = c.args in
       Lends m x.state.now x.policy.now x.prio.now x.cpu.now x.slice.now x.mask.now x.rows.now x.counts.now x.flags.now m.online
-      x.«record».now
+      (lent_record x.masks.now x.tallies.now x.words.now x.levels.now)
 
   judged : (m : Machine) (a k : ℕ) (r : Result (Option Written) Refusal) → let e = event 5 c.args.who a c.args.b k in
       PlannedOrNotAs set_priority m e r → PlannedOrNot (refusal m e) (effect e m) m r
@@ -82,7 +83,7 @@ module _ (c : In-Some) where
     abbrev Goes : Plan → Type 0
     Goes p =
         let x = c.args in
-        Moving m p x.state.now (set x.prio.now q.task q.becomes.prio) x.cpu.now x.rows.now x.counts.now x.flags.now x.«record».now
+        Moving m p x.state.now (set x.prio.now q.task q.becomes.prio) x.cpu.now x.rows.now x.counts.now x.flags.now (lent_record x.masks.now x.tallies.now x.words.now x.levels.now)
 
     -- where it does not enter a row
     module _ (z : q.enters ≡ None) where

@@ -17,13 +17,13 @@ pub returns-in_err-mover : goal.returns-in_err-mover
 returns-in_err-mover c =
     λ m l h.
     let x = c.args in
-    subst (Leads m x.«record».now.masks x.prio.now x.cpu.now x.mask.now) (sym c.from_residual.ensures)
-    (subst (λ (b : code.Option Mover). Leads m x.«record».now.masks x.prio.now x.cpu.now x.mask.now (task_of_best b)) c.in_err-mover.was
+    subst (Leads m x.masks.now x.prio.now x.cpu.now x.mask.now) (sym c.from_residual.ensures)
+    (subst (λ (b : code.Option Mover). Leads m x.masks.now x.prio.now x.cpu.now x.mask.now (task_of_best b)) c.in_err-mover.was
     (leads_drawn l x.fallen x.new h c.if_movable-movable.result c.if_movable-movable.ensures c.pick.result (c.pick.ensures m l.looking tt l.cpus)))
 
 pub returns : goal.returns
 returns c =
     λ m l h.
     let x = c.args in
-    subst (λ (b : code.Option Mover). Leads m x.«record».now.masks x.prio.now x.cpu.now x.mask.now (task_of_best b)) c.in_ok-mover.was
+    subst (λ (b : code.Option Mover). Leads m x.masks.now x.prio.now x.cpu.now x.mask.now (task_of_best b)) c.in_ok-mover.was
     (leads_drawn l x.fallen x.new h c.if_movable-movable.result c.if_movable-movable.ensures c.pick.result (c.pick.ensures m l.looking tt l.cpus))

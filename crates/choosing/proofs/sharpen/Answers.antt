@@ -9,7 +9,6 @@ use Rattle.cpupri.specs.Level.{level_count}
 use Rattle.cpupri.specs.Found.{lowest_level}
 use Rattle.cpupri.proofs.Found.{some_below, some_under, none_below}
 use Rattle.cpupri.proofs.Search.{marked_by}
-use Rattle.levels.specs.declared.record.Record.{Record}
 use Rattle.rules.specs.Machine.{Machine, level, levels}
 use Rattle.laws.proofs.Finder.{lowest_of_all}
 use Rattle.mover.specs.Foremost.{OnlyAbove}
@@ -19,16 +18,16 @@ use Rattle.choosing.proofs.sharpen.Goals.{In-Some}
 use Rattle.choosing.proofs.sharpen.Goals as goal
 
 -- no CPU is below the lowest level
-least : {m : Machine} {n : ℕ} {ps ks flat : List ℕ} {r : Record} → Watching m n ps ks flat r → (l : ℕ) → l ≤ lowest_level r.masks level_count (2 ^ 64 - 1)
+least : {m : Machine} {n : ℕ} {ps ks flat lm lw : List ℕ} → Watching m n ps ks flat lm lw → (l : ℕ) → l ≤ lowest_level lm level_count (2 ^ 64 - 1)
     → (c : ℕ) → c < m.n → l ≤ level m c
-least {m} {r = r} k l small c h =
+least {m} k l small c h =
     le_trans (subst (λ (ms : List ℕ). l ≤ lowest_level ms level_count (2 ^ 64 - 1)) k.masks small) (lowest_of_all m k.looking.well c h)
 
 -- so none is below the one that was found
 module _ (c : In-Some) {m : Machine} where
-  least_found : let a = c.args in Watching m a.n a.prio.now a.counts.now a.rows.now a.«record».now → (d : ℕ) → d < m.n → c.in-Some.lowest ≤ level m d
+  least_found : let a = c.args in Watching m a.n a.prio.now a.counts.now a.rows.now a.masks.now a.words.now → (d : ℕ) → d < m.n → c.in-Some.lowest ≤ level m d
   least_found k = let x = c in
-      least k x.in-Some.lowest (le_of_eq (some_below x.args.«record».now.masks level_count (2 ^ 64 - 1) (sym x.in-Some.ensures)).0)
+      least k x.in-Some.lowest (le_of_eq (some_below x.args.masks.now level_count (2 ^ 64 - 1) (sym x.in-Some.ensures)).0)
 
 pub lowest_level-requires-clause-marked : goal.lowest_level-requires-clause-marked
 lowest_level-requires-clause-marked c = let p = c.requires in marked_by (levels p.0) p.1.masks p.1.words
@@ -36,7 +35,7 @@ lowest_level-requires-clause-marked c = let p = c.requires in marked_by (levels 
 pub returns-in_default : goal.returns-in_default
 returns-in_default c = λ m k h.
     no_level m k.looking.well level_count
-    (least k level_count (none_below c.args.«record».now.masks level_count (2 ^ 64 - 1) (sym c.in_default.ensures))) (omega arith)
+    (least k level_count (none_below c.args.masks.now level_count (2 ^ 64 - 1) (sym c.in_default.ensures))) (omega arith)
 
 pub returns-in-Nobody : goal.returns-in-Nobody
 returns-in-Nobody c = λ m k h.
@@ -52,5 +51,5 @@ returns-in-One c = λ m k h.
 
 pub overflow_cast-lowest : goal.overflow_cast-lowest
 overflow_cast-lowest c =
-    let under = some_under c.args.«record».now.masks level_count (2 ^ 64 - 1) (sym c.in-Some.ensures) in
+    let under = some_under c.args.masks.now level_count (2 ^ 64 - 1) (sym c.in-Some.ensures) in
     omega arith

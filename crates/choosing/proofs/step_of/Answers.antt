@@ -1,22 +1,23 @@
 -- `choosing::step_of` meets its contract.
 -- Assumes nothing.
-use mathlib.Core.Path.{◌≡◌, sym, ap, ◌∙◌}
+use mathlib.Core.Path.{◌≡◌, sym, ap, ◌∙◌, subst}
 use mathlib.Core.Bool.{Bool, cond}
 use mathlib.Core.List.{List}
 use mathlib.Core.Option.{none, some}
-use Prim.Native.Nat.{ℕ, ◌<◌}
+use Prim.Native.Nat.{ℕ, ◌≤◌, ◌<◌}
 use native.Mathlib.Omega.{arith}
 use lib.Dec.{ltb}
 use lib.ListN.{get_or}
 use borrow.Author.Tests.{lt-ltb, le-ltb}
-use Rattle.std.specs.Prelude.{None, Some}
+use Rattle.std.specs.Prelude.{Option, None, Some, IfSome}
 use Rattle.bits.specs.Bit.{lowest}
 use Rattle.cpupri.specs.Level.{level_count, level_of}
 use Rattle.cpupri.specs.Found.{lowest_level, lowest_below, allowed_at}
 use Rattle.cpupri.proofs.Found.{some_below, some_under, none_below}
+use Rattle.rules.specs.Machine.{task_places, highest_priority}
 use Rattle.rules.specs.Migration.{Move}
-use Rattle.choosing.specs.Choosing.{as_move, step_by}
-use Rattle.choosing.proofs.step_of.Goals.{After-branch-level, In_ok-level}
+use Rattle.choosing.specs.Choosing.{as_move, step_by, step_if}
+use Rattle.choosing.proofs.step_of.Goals.{In_ok-level, In_ok-task}
 use Rattle.choosing.proofs.step_of.Goals as goal
 
 -- the step of a task, by the level x that it is asked below
@@ -43,25 +44,32 @@ module _ (masks ps cs ms : List ℕ) (t x : ℕ) (own : x ≡ level_of (get_or p
       ∙ ap (λ (i : ℕ). some (move i)) is.0
       ∙ sym (by_level ∙ ap (λ (b : Bool). cond b (some (move below)) none) (lt-ltb below x is.1))
 
+-- the task that there is can be looked up
+stored : (c : In_ok-task) → let k = c in (k.in_ok-task.task < task_places) × (get_or k.args.prio.now k.in_ok-task.task 0 ≤ highest_priority)
+stored c =
+    let k = c in
+    subst (λ (o : Option ℕ). IfSome o (λ t. (t < task_places) × (get_or k.args.prio.now t 0 ≤ highest_priority))) k.in_ok-task.was k.requires.task
+
 -- a level that is found is one of the levels
 is_level : (c : In_ok-level) → c.in_ok-level.level < level_count
 is_level c =
     let k = c in
     let x = k.args in
-    let under = some_under x.«record».now.masks k.of_priority-below.result.number (get_or x.mask.now x.task 0) (sym k.in_ok-level.ensures) in
-    omega (arith, k.of_priority-below.ensures, k.requires.task)
+    let under = some_under x.masks.now k.of_priority-below.result.number (get_or x.mask.now k.in_ok-task.task 0) (sym k.in_ok-level.ensures) in
+    omega (arith, k.of_priority-below.ensures, stored (goal.at.In_ok-level k).In_ok-task)
 
 pub returns-in_err-level : goal.returns-in_err-level
 returns-in_err-level c =
     let x = c.args in
-    ap as_move c.from_residual.ensures
-    ∙ not_found x.«record».now.masks x.prio.now x.cpu.now x.mask.now x.task c.of_priority-below.result.number c.of_priority-below.ensures (sym c.in_err-level.ensures)
+    ap as_move c.from_residual-in_err-level.ensures
+    ∙ not_found x.masks.now x.prio.now x.cpu.now x.mask.now c.in_ok-task.task c.of_priority-below.result.number c.of_priority-below.ensures (sym c.in_err-level.ensures)
+    ∙ ap (step_if x.masks.now x.prio.now x.cpu.now x.mask.now) (sym c.in_ok-task.was)
 
-pub offset_bounds-record-level : goal.offset_bounds-record-level
-offset_bounds-record-level c = let small = is_level (goal.at.offset_bounds-record-level c).In_ok-level in omega arith
+pub offset_bounds-masks-level : goal.offset_bounds-masks-level
+offset_bounds-masks-level c = let small = is_level (goal.at.offset_bounds-masks-level c).In_ok-level in omega arith
 
-pub bounds-record-level : goal.bounds-record-level
-bounds-record-level c = is_level (goal.at.bounds-record-level c).In_ok-level
+pub bounds-masks-level : goal.bounds-masks-level
+bounds-masks-level c = is_level (goal.at.bounds-masks-level c).In_ok-level
 
 pub overflow_cast-result-3 : goal.overflow_cast-result-3
 overflow_cast-result-3 c = let small = is_level (goal.at.overflow_cast-result-3 c).In_ok-level in omega arith
@@ -70,5 +78,6 @@ pub returns : goal.returns
 unfolding allowed_at
 returns c =
     let x = c.args in
-    found_at x.«record».now.masks x.prio.now x.cpu.now x.mask.now x.task c.of_priority-below.result.number c.of_priority-below.ensures
+    found_at x.masks.now x.prio.now x.cpu.now x.mask.now c.in_ok-task.task c.of_priority-below.result.number c.of_priority-below.ensures
     c.in_ok-level.level (sym c.in_ok-level.ensures) c.lowest_bit.result c.lowest_bit.ensures
+    ∙ ap (step_if x.masks.now x.prio.now x.cpu.now x.mask.now) (sym c.in_ok-task.was)

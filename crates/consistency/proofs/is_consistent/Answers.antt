@@ -1,6 +1,6 @@
 -- `consistency::is_consistent` meets its contract.
 -- Assumes nothing.
-use Rattle.std.proofs.Common.{◌≡◌, ℕ, ◌<◌, min, true, List, length, get_or, sym, refl, ap, ◌∙◌, zero-le, arith}
+use Rattle.std.proofs.Common.{◌≡◌, ℕ, ◌<◌, min, true, List, length, take, get_or, sym, refl, ap, ◌∙◌, zero-le, arith, take_all}
 use Rattle.levels.specs.Level.{cpu_places, known}
 use Rattle.levels.specs.Record.{lent_record, masks_of, counts_of, words_of}
 use Rattle.levels.specs.declared.record.Record.{Record}
@@ -30,6 +30,10 @@ module _ (c : After-places) where
       let k = c in
       from_bounded k.args.n k.places.result k.args.levels.now (end_is ∙ ap (min k.args.n) (sym k.requires.levels))
 
+-- as many masks as are copied there are
+all_masks : (c : Start) → take 102 c.args.masks.now ≡ c.args.masks.now
+all_masks c = take_all 102 c.args.masks.now (omega (arith, c.requires.masks))
+
 -- ---- where all levels are known, the counts and words are gathered, and it is known what is left of the masks
 
 module _ (c : Else-not-gather) where
@@ -49,7 +53,13 @@ module _ (c : Else-not-gather) where
   left_is =
       let k = c in
       k.gather.ensures.takes passed k.args.masks.now
-      (left_start k.args.levels.now 0 k.args.masks.now k.copy_from_slice.new.self k.requires.mask k.requires.masks k.copy_from_slice.ensures.after)
+      (left_start k.args.levels.now 0 k.args.masks.now k.copy_from_slice.new.self k.requires.mask k.requires.masks (k.copy_from_slice.ensures.after ∙ all_masks (goal.at.Else-not-gather k).Start))
+
+pub copy_from_slice-requires : goal.copy_from_slice-requires
+copy_from_slice-requires c = sym (ap length (all_masks (goal.at.copy_from_slice-requires c).Start) ∙ c.requires.masks)
+
+pub slice_bounds-copy_from_slice-end-2 : goal.slice_bounds-copy_from_slice-end-2
+slice_bounds-copy_from_slice-end-2 c = omega (arith, c.requires.masks, ap length (all_masks (goal.at.slice_bounds-copy_from_slice-end-2 c).Start))
 
 pub gather-requires : goal.gather-requires
 gather-requires c =

@@ -1,6 +1,7 @@
 -- `dispatch::rest` meets its contract.
 -- Assumes nothing.
 use mathlib.Core.Path.{◌≡◌, sym, ap, ◌∙◌, subst}
+use Rattle.levels.specs.Record.{lent_record}
 use Rattle.std.specs.Prelude.{Ok}
 use Rattle.std.proofs.lemmas.Result.{err_from_is_err_and}
 use Rattle.rules.specs.Machine.{Machine}
@@ -23,7 +24,7 @@ module _ (c : Start) where
   abbrev Lent : Machine → Type 0
   Lent m =
       let x = c.args in
-      Lends m x.state.now x.policy.now x.prio.now x.cpu.now x.slice.now x.mask.now x.rows.now x.counts.now x.flags.now x.online.now x.«record».now
+      Lends m x.state.now x.policy.now x.prio.now x.cpu.now x.slice.now x.mask.now x.rows.now x.counts.now x.flags.now x.online.now (lent_record x.masks.now x.tallies.now x.words.now x.levels.now)
 
 -- ---- what was decided
 

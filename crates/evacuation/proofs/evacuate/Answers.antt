@@ -3,6 +3,7 @@
 use mathlib.Core.Path.{◌≡◌, sym, ◌∙◌}
 use Prim.Native.Nat.{ℕ, ◌<◌}
 use native.Mathlib.Omega.{arith}
+use Rattle.levels.specs.Record.{lent_record}
 use Rattle.evacuation.proofs.Leaves.{Under, under_start, under_first, under_on, under_end, under_counted, under_long, under_cpus, fewer}
 use Rattle.evacuation.proofs.evacuate.Goals.{At-loop-counts}
 use Rattle.evacuation.proofs.evacuate.Goals as goal
@@ -15,7 +16,7 @@ some n = omega arith
 module _ (c : At-loop-counts) where
   under : let k = c in let a = k.args in let l = k.loop-counts in
       Under k.requires.0 a.prio.now l.cpus a.mask.now l.rows l.counts a.flags.now
-      l.«record» a.cpu a.up
+      (lent_record l.masks l.tallies l.words l.levels) a.cpu a.up
   under =
       let k = c in
       let l = k.requires.1 in

@@ -14,37 +14,37 @@ fresh r made = subst⁻¹ Whole made (fresh_whole 3 (omega arith))
 stepped : (r q : Record) (c l : ℕ) → Whole r → l < level_count → q ≡ record_of (set r.levels c l) → Whole q
 stepped r q c l w h made = subst⁻¹ Whole made (whole_set r w c l (level_known l h))
 
-pub set_level-requires-clause-whole : goal.set_level-requires-clause-whole
-set_level-requires-clause-whole g c = fresh c.fresh-r.result c.fresh-r.ensures
+pub set_level-r-requires-clause-whole : goal.set_level-r-requires-clause-whole
+set_level-r-requires-clause-whole g c = fresh c.fresh-r.result c.fresh-r.ensures
 
-pub set_level-requires-clause-number_value : goal.set_level-requires-clause-number_value
-set_level-requires-clause-number_value g c = level_known c.of_priority.result.number (omega (arith, c.of_priority.ensures))
+pub set_level-r-requires-clause-number_value : goal.set_level-r-requires-clause-number_value
+set_level-r-requires-clause-number_value g c = level_known c.of_priority.result.number (omega (arith, c.of_priority.ensures))
 
-pub set_level-requires-2-clause-whole : goal.set_level-requires-2-clause-whole
-set_level-requires-2-clause-whole g c =
+pub set_level-r-requires-2-clause-whole : goal.set_level-r-requires-2-clause-whole
+set_level-r-requires-2-clause-whole g c =
     let none = fresh c.fresh-r.result c.fresh-r.ensures in
-    stepped c.fresh-r.result c.set_level.new.self 0 c.of_priority.result.number none (omega (arith, c.of_priority.ensures)) c.set_level.ensures
+    stepped c.fresh-r.result c.set_level-r.result 0 c.of_priority.result.number none (omega (arith, c.of_priority.ensures)) c.set_level-r.ensures
 
-pub set_level-requires-2-clause-number_value : goal.set_level-requires-2-clause-number_value
-set_level-requires-2-clause-number_value g c = level_known 1 (omega arith)
+pub set_level-r-requires-2-clause-number_value : goal.set_level-r-requires-2-clause-number_value
+set_level-r-requires-2-clause-number_value g c = level_known 1 (omega arith)
 
-pub set_level-requires-3-clause-whole : goal.set_level-requires-3-clause-whole
-set_level-requires-3-clause-whole g c =
+pub set_level-r-requires-3-clause-whole : goal.set_level-r-requires-3-clause-whole
+set_level-r-requires-3-clause-whole g c =
     let none = fresh c.fresh-r.result c.fresh-r.ensures in
-    let one = stepped c.fresh-r.result c.set_level.new.self 0 c.of_priority.result.number none (omega (arith, c.of_priority.ensures)) c.set_level.ensures in
-    stepped c.set_level.new.self c.set_level-2.new.self 1 1 one (omega arith) c.set_level-2.ensures
+    let one = stepped c.fresh-r.result c.set_level-r.result 0 c.of_priority.result.number none (omega (arith, c.of_priority.ensures)) c.set_level-r.ensures in
+    stepped c.set_level-r.result c.set_level-r-2.result 1 1 one (omega arith) c.set_level-r-2.ensures
 
-pub set_level-requires-3-clause-number_value : goal.set_level-requires-3-clause-number_value
-set_level-requires-3-clause-number_value g c = level_known c.of_priority-2.result.number (omega (arith, c.of_priority-2.ensures))
+pub set_level-r-requires-3-clause-number_value : goal.set_level-r-requires-3-clause-number_value
+set_level-r-requires-3-clause-number_value g c = level_known c.of_priority-2.result.number (omega (arith, c.of_priority-2.ensures))
 
-pub set_level-requires-4-clause-whole : goal.set_level-requires-4-clause-whole
-set_level-requires-4-clause-whole g c =
+pub set_level-r-requires-4-clause-whole : goal.set_level-r-requires-4-clause-whole
+set_level-r-requires-4-clause-whole g c =
     let none = fresh c.fresh-r.result c.fresh-r.ensures in
-    let one = stepped c.fresh-r.result c.set_level.new.self 0 c.of_priority.result.number none (omega (arith, c.of_priority.ensures)) c.set_level.ensures in
-    let two = stepped c.set_level.new.self c.set_level-2.new.self 1 1 one (omega arith) c.set_level-2.ensures in
+    let one = stepped c.fresh-r.result c.set_level-r.result 0 c.of_priority.result.number none (omega (arith, c.of_priority.ensures)) c.set_level-r.ensures in
+    let two = stepped c.set_level-r.result c.set_level-r-2.result 1 1 one (omega arith) c.set_level-r-2.ensures in
     let l = c.of_priority-2.result.number in
-    stepped c.set_level-2.new.self c.set_level-3.new.self 2 l two (omega (arith, c.of_priority-2.ensures)) c.set_level-3.ensures
+    stepped c.set_level-r-2.result c.set_level-r-3.result 2 l two (omega (arith, c.of_priority-2.ensures)) c.set_level-r-3.ensures
 
-pub set_level-requires-4-clause-number_value : goal.set_level-requires-4-clause-number_value
+pub set_level-r-requires-4-clause-number_value : goal.set_level-r-requires-4-clause-number_value
 unfolding known
-set_level-requires-4-clause-number_value g c = refl
+set_level-r-requires-4-clause-number_value g c = refl

@@ -2,6 +2,7 @@
 -- Assumes nothing.
 use mathlib.Core.Path.{refl}
 use native.Mathlib.Omega.{arith}
+use Rattle.levels.specs.Record.{lent_record}
 use Rattle.std.specs.Prelude.{Ok}
 use Rattle.std.proofs.lemmas.Result.{err_from_is_err_and}
 use Rattle.levels.specs.declared.record.Record.{Record}
@@ -26,7 +27,7 @@ module _ (c : Start) where
       lent x.full x.state.now x.policy.now x.prio.now x.cpu.now x.slice.now x.mask.now x.rows.now x.counts.now x.flags.now x.online.now x.log.now
 
   abbrev levels : Record
-  levels = c.args.«record».now
+  levels = (lent_record c.args.masks.now c.args.tallies.now c.args.words.now c.args.levels.now)
 
   abbrev asked : Event
   asked = as_event c.args.event
@@ -48,7 +49,7 @@ module _ (c : In_ok-few) where
       lent k.args.full o.state o.policy o.prio o.cpu o.slice o.mask o.rows o.counts o.flags o.online k.args.log.now
 
   abbrev left_levels : Record
-  left_levels = c.effect.new.«record»
+  left_levels = (lent_record c.effect.new.masks c.effect.new.tallies c.effect.new.words c.effect.new.levels)
 
   own : let k = c in let s = (goal.at.In_ok-few k).Start in let t = left in
       Effected (machine s) (asked s) (Ok k.in_ok-few.few) t.state t.policy t.prio t.cpu t.slice t.mask t.rows t.counts t.flags t.online left_levels

@@ -2,6 +2,7 @@
 -- Assumes nothing.
 use mathlib.Core.Path.{sym}
 use native.Mathlib.Omega.{arith}
+use Rattle.levels.specs.Record.{lent_record}
 use Rattle.std.proofs.lemmas.Result.{err_from_is_err_and}
 use Rattle.lenttables.specs.Lent.{lent}
 use Rattle.plans.specs.Decided.{as_event}
@@ -34,7 +35,7 @@ returns-clause-demand3_holds c =
     let x = c.args in
     let o = c.handle.new in
     let r = c.handle.result in
-    result_demand x.n x.«record».now (tables (goal.at.returns-clause-demand3_holds c).Start) (as_event x.event) (answer_of r) (moves_of r) o.«record»
+    result_demand x.n x.«record».now (tables (goal.at.returns-clause-demand3_holds c).Start) (as_event x.event) (answer_of r) (moves_of r) (lent_record o.masks o.tallies o.words o.levels)
     (lent x.full o.state o.policy o.prio o.cpu o.slice o.mask o.rows o.counts o.flags o.online o.log) c.handle.ensures.as_ruled
 
 pub overflow_cast-full : goal.overflow_cast-full

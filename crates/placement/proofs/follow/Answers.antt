@@ -22,8 +22,8 @@ cpu_level-level-requires c =
       flag_bound = flag_read l;
     }
 
-pub returns-then-level-record : goal.returns-then-level-record
-returns-then-level-record c = λ m l. unmoved l c.requires.whole (level_read l c.cpu_level-level.ensures) c.if-level-record.true
+pub returns-then-level-levels : goal.returns-then-level-levels
+returns-then-level-levels c = λ m l. unmoved l c.requires.whole (level_read l c.cpu_level-level.ensures) c.if-level-levels.true
 
 pub set_level-requires : goal.set_level-requires
 set_level-requires c =
@@ -36,4 +36,4 @@ set_level-requires c =
 pub returns : goal.returns
 returns c =
     λ m l.
-    c.set_level.ensures ∙ ap (λ (v : ℕ). record_of (set c.args.«record».now.levels c.args.cpu v)) (level_read l c.cpu_level-level.ensures)
+    c.set_level.ensures ∙ ap (λ (v : ℕ). record_of (set c.args.levels.now c.args.cpu v)) (level_read l c.cpu_level-level.ensures)

@@ -1,5 +1,6 @@
 -- `playing::play` meets its contract.
 -- Assumes nothing.
+use Rattle.levels.specs.Record.{lent_record}
 use Rattle.std.proofs.Common.{arith}
 use Rattle.lenttables.specs.Lent.{lent}
 use Rattle.rules.specs.Tables.{Tables}
@@ -52,7 +53,7 @@ returns-in-Ok c =
     let x = c.args in
     let h = c.handle in
     let s = (goal.at.returns-in-Ok c).Start in
-    played_ok x.n (event s) c.since.result x.«record».now h.new.«record» (tables s) (tables_after (goal.at.returns-in-Ok c).After-handle)
+    played_ok x.n (event s) c.since.result x.«record».now (lent_record h.new.masks h.new.tallies h.new.words h.new.levels) (tables s) (tables_after (goal.at.returns-in-Ok c).After-handle)
     x.times.now c.accrue.new.times x.t h.result c.since.ensures c.accrue.ensures h.ensures.as_ruled c.in-Ok.moves c.in-Ok.is
 
 pub returns-in-Err : goal.returns-in-Err
@@ -60,7 +61,7 @@ returns-in-Err c =
     let x = c.args in
     let h = c.handle in
     let s = (goal.at.returns-in-Err c).Start in
-    played_err x.n (event s) c.since.result x.«record».now h.new.«record» (tables s) (tables_after (goal.at.returns-in-Err c).After-handle)
+    played_err x.n (event s) c.since.result x.«record».now (lent_record h.new.masks h.new.tallies h.new.words h.new.levels) (tables s) (tables_after (goal.at.returns-in-Err c).After-handle)
     x.times.now c.accrue.new.times x.t h.result c.since.ensures c.accrue.ensures h.ensures.as_ruled c.in-Err.field-0 c.in-Err.is
 
 pub overflow_add-course : goal.overflow_add-course
@@ -68,6 +69,6 @@ overflow_add-course c =
     let x = c.args in
     let h = c.handle in
     let s = (goal.at.overflow_add-course c).Start in
-    let few = moves_few x.n x.«record».now h.new.«record» (tables s) (tables_after (goal.at.overflow_add-course c).After-handle) (event s) h.result
+    let few = moves_few x.n x.«record».now (lent_record h.new.masks h.new.tallies h.new.words h.new.levels) (tables s) (tables_after (goal.at.overflow_add-course c).After-handle) (event s) h.result
     c.requires.good h.ensures.as_ruled c.in-Ok.moves c.in-Ok.is in
     omega (arith, few, c.requires.moves)

@@ -16,7 +16,7 @@ use Rattle.recording.specs.Replay.{Replayed, replayed}
 use Rattle.night.specs.declared.Report.{Report}
 use Rattle.night.specs.Told.{told_of}
 use Rattle.replay.proofs.Entry.{told_unfit, told_fit, record_fits_lem, times_fit, places_of}
-use Rattle.replay.proofs.qoriwesh_replay.Goals.{After-lengths_fit, After-replay-replayed, Else-not-lengths_fit-times, Start}
+use Rattle.replay.proofs.qoriwesh_replay.Goals.{After-lengths_fit, After-replay_lent-replayed, Else-not-lengths_fit-times, Start}
 use Rattle.replay.proofs.qoriwesh_replay.Goals as goal
 
 -- what the caller lent
@@ -35,25 +35,25 @@ module _ (c : After-lengths_fit) where
   fit = let k = c in k.lengths_fit.result && eqb (length k.fill.new.self) cpu_places
 
 -- what the replay reports
-module _ (c : After-replay-replayed) where
+module _ (c : After-replay_lent-replayed) where
   abbrev told_by : Answer Report Refusal → Replayed
   told_by =
       let k = c in
-      let l = k.replay-replayed.new in
+      let l = k.replay_lent-replayed.new in
       λ o. told_of o l.times l.«record»
       (lent 0 l.state l.policy l.prio l.cpu l.slice l.mask l.rows l.counts l.flags l.online l.log)
 
   -- by its variant
-  reports : (o : Answer Report Refusal) → c.replay-replayed.result ≡ o
-      → told_by o ≡ replayed c.args.bytes.now c.load.new.«record» (tables (goal.at.After-replay-replayed c).Start)
-  reports = let k = c in λ o is. ap told_by (sym is) ∙ k.replay-replayed.ensures
+  reports : (o : Answer Report Refusal) → c.replay_lent-replayed.result ≡ o
+      → told_by o ≡ replayed c.args.bytes.now c.load.new.«record» (tables (goal.at.After-replay_lent-replayed c).Start)
+  reports = let k = c in λ o is. ap told_by (sym is) ∙ k.replay_lent-replayed.ensures
 
-  spent_places : length c.replay-replayed.new.times ≡ cpu_places
+  spent_places : length c.replay_lent-replayed.new.times ≡ cpu_places
   spent_places =
       let k = c in
-      let l = k.replay-replayed.new in
-      places_of k.args.bytes.now k.load.new.«record» (tables (goal.at.After-replay-replayed k).Start) k.replay-replayed.result l.times l.«record»
-      (lent 0 l.state l.policy l.prio l.cpu l.slice l.mask l.rows l.counts l.flags l.online l.log) k.replay-replayed.ensures
+      let l = k.replay_lent-replayed.new in
+      places_of k.args.bytes.now k.load.new.«record» (tables (goal.at.After-replay_lent-replayed k).Start) k.replay_lent-replayed.result l.times l.«record»
+      (lent 0 l.state l.policy l.prio l.cpu l.slice l.mask l.rows l.counts l.flags l.online l.log) k.replay_lent-replayed.ensures
 
 -- the lengths are right
 module _ (c : Else-not-lengths_fit-times) where
@@ -80,7 +80,7 @@ copy_from_slice-requires c =
     let f = c.lengths_fit in
     times_fit c.args.bytes.now (given s) (tables s) c.args.times.now c.fill.new.self (c.fill.ensures.after (λ y e. e)) f.result f.ensures
     (right (goal.at.copy_from_slice-requires c).Else-not-lengths_fit-times)
-    ∙ sym (spent_places (goal.at.copy_from_slice-requires c).After-replay-replayed)
+    ∙ sym (spent_places (goal.at.copy_from_slice-requires c).After-replay_lent-replayed)
 
 pub write-requires : goal.write-requires
 write-requires c =
@@ -92,7 +92,7 @@ write-requires c =
 pub returns-in-Ok : goal.returns-in-Ok
 returns-in-Ok c =
     let s = (goal.at.returns-in-Ok c).Start in
-    let k = (goal.at.returns-in-Ok c).After-replay-replayed in
+    let k = (goal.at.returns-in-Ok c).After-replay_lent-replayed in
     let f = c.lengths_fit in
     let w = c.write.new in
     let o : Answer Report Refusal = Ok c.in-Ok.report in
@@ -104,7 +104,7 @@ returns-in-Ok c =
 pub returns-in-Err : goal.returns-in-Err
 returns-in-Err c =
     let s = (goal.at.returns-in-Err c).Start in
-    let k = (goal.at.returns-in-Err c).After-replay-replayed in
+    let k = (goal.at.returns-in-Err c).After-replay_lent-replayed in
     let f = c.lengths_fit in
     let w = c.write.new in
     let o : Answer Report Refusal = Err c.in-Err.refusal in

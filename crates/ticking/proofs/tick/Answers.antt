@@ -5,6 +5,7 @@ use mathlib.Core.Path.{◌≡◌, refl, sym, ap, ◌∙◌, subst}
 use Prim.Native.Nat.{ℕ}
 use native.Mathlib.Omega.{arith}
 use lib.ListN.{set}
+use Rattle.levels.specs.Record.{lent_record}
 use Rattle.std.specs.Prelude.{Option, Some, Result, Ok, Err, IfSome, IsSomeAnd}
 use Rattle.rules.specs.Machine.{Machine, Task, task_of}
 use Rattle.rules.specs.Events.{event, effect, tick}
@@ -31,7 +32,7 @@ module _ (c : After-with_columns-runner) where
   Lent m =
       let x = c.args in
       Lends m x.state.now x.policy.now x.prio.now x.cpu.now x.slice.now x.mask.now x.rows.now x.counts.now x.flags.now x.online
-      x.«record».now
+      (lent_record x.masks.now x.tallies.now x.words.now x.levels.now)
 
   -- what runs on the CPU
   runner : {m : Machine} → Lent m → c.args.n ≡ m.n → Runs m c.args.who c.with_columns-runner.result
@@ -102,7 +103,7 @@ module _ (c : In-Some) where
 
       goes : let x = c.args in
           Moving m (reorder false q.task to.target (as_task q.becomes)) x.state.now x.prio.now x.cpu.now x.rows.now x.counts.now x.flags.now
-          x.«record».now
+          (lent_record x.masks.now x.tallies.now x.words.now x.levels.now)
       goes = moving l (event 7 c.args.who 0 0 0) q (placed 0 0 0) behind (ap (λ (τ : Task). τ.cpu) becomes) state prio
 
 -- ---- the needs

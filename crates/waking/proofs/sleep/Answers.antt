@@ -5,6 +5,7 @@ use mathlib.Core.Logic.{◌≢◌}
 use Prim.Native.Nat.{ℕ}
 use native.Mathlib.Omega.{arith}
 use lib.ListN.{set}
+use Rattle.levels.specs.Record.{lent_record}
 use Rattle.std.specs.Prelude.{Ok, Err}
 use Rattle.rules.specs.Machine.{Machine, Task, task_of, asleep, runnable}
 use Rattle.rules.specs.Events.{event, sleep}
@@ -37,7 +38,7 @@ module _ (c : In_ok-plan) where
   Lent m =
       let x = c.args in
       Lends m x.state.now x.policy.now x.prio.now x.cpu.now x.slice.now x.mask.now x.rows.now x.counts.now x.flags.now m.online
-      x.«record».now
+      (lent_record x.masks.now x.tallies.now x.words.now x.levels.now)
 
   module _ {m : Machine} (l : Lent m) where
     placed : (a b k : ℕ) → Plans m (event 4 c.args.who a b k) q
@@ -56,7 +57,7 @@ module _ (c : In_ok-plan) where
 
     goes : let x = c.args in
         Moving m (leave q.task c.task_at-named.result.cpu (as_task q.becomes)) (set x.state.now q.task q.becomes.state) x.prio.now x.cpu.now x.rows.now
-        x.counts.now x.flags.now x.«record».now
+        x.counts.now x.flags.now (lent_record x.masks.now x.tallies.now x.words.now x.levels.now)
     goes =
         moving l (event 4 c.args.who 0 0 0) q (placed 0 0 0) shape (ap (λ (τ : Task). τ.cpu) becomes)
         (written q.task q.becomes.state l.holds.state) prio

@@ -4,6 +4,7 @@ use mathlib.Core.Path.{◌≡◌, refl, sym, ap, ◌∙◌}
 use Prim.Native.Nat.{ℕ}
 use native.Mathlib.Omega.{arith}
 use lib.ListN.{set}
+use Rattle.levels.specs.Record.{lent_record}
 use Rattle.std.specs.Prelude.{Option, Some, Ok, Err}
 use Rattle.rules.specs.Machine.{Machine, Task, task_of, runnable}
 use Rattle.rules.specs.Events.{event, wake}
@@ -36,7 +37,7 @@ module _ (c : In_ok-plan) where
   Lent m =
       let x = c.args in
       Lends m x.state.now x.policy.now x.prio.now x.cpu.now x.slice.now x.mask.now x.rows.now x.counts.now x.flags.now x.online
-      x.«record».now
+      (lent_record x.masks.now x.tallies.now x.words.now x.levels.now)
 
   module _ {m : Machine} (l : Lent m) where
     placed : (a b k : ℕ) → Plans m (event 3 c.args.who a b k) q
@@ -55,7 +56,7 @@ module _ (c : In_ok-plan) where
 
     goes : {n : Entry} → q.enters ≡ Some n → let x = c.args in
         Moving m (enter q.task (as_task q.becomes) n.target) (set x.state.now q.task q.becomes.state) x.prio.now x.cpu.now x.rows.now
-        x.counts.now x.flags.now x.«record».now
+        x.counts.now x.flags.now (lent_record x.masks.now x.tallies.now x.words.now x.levels.now)
     goes z =
         moving l (event 3 c.args.who 0 0 0) q (placed 0 0 0) (shape z) (ap (λ (τ : Task). τ.cpu) becomes)
         (written q.task q.becomes.state l.holds.state) prio

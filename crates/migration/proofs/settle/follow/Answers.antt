@@ -6,6 +6,7 @@ use mathlib.Core.Option.{some}
 use Prim.Native.Nat.{ℕ, ◌*◌}
 use native.Mathlib.Omega.{arith}
 use lib.ListN.{get_or}
+use Rattle.levels.specs.Record.{lent_record}
 use Rattle.levels.specs.declared.record.Record.{Record}
 use Rattle.rules.specs.Machine.{Machine, task_places}
 use Rattle.rules.specs.Migration.{Move, next, migrate}
@@ -45,7 +46,7 @@ module _ (c : Start) where
   -- where the loop began
   first : let a = c.args in
       Going lent a.prio.now a.cpu.now a.mask.now a.counts.now a.rows.now a.log.now a.log.now 0
-      a.«record».now (λ (e : Machine). Among e a.few)
+      (lent_record a.masks.now a.tallies.now a.words.now a.levels.now) (λ (e : Machine). Among e a.few)
   first = going_start c.requires.settling.1.0 _ c.requires.settling.1.2
 
 -- ---- in the loop
@@ -53,7 +54,7 @@ module _ (c : Start) where
 module _ (c : At-loop-step) where
   going : let a = c.args in let l = c.loop-step in
       Going (lent (goal.at.At-loop-step c).Start) a.prio.now l.cpu a.mask.now l.counts l.rows a.log.now l.log l.moves
-      l.«record» (λ (e : Machine). Among e l.known)
+      (lent_record l.masks l.tallies l.words l.levels) (λ (e : Machine). Among e l.known)
   going = let p = c.requires.settling in c.loop-step.invariant p.0 p.1.0 p.1.1 p.1.2
 
 -- a step applies

@@ -8,6 +8,7 @@ use Prim.Native.Nat.{ℕ, ◌-◌, ◌^◌, ◌≤◌, ◌<◌}
 use native.Mathlib.Nat.{le_trans}
 use native.Mathlib.Omega.{arith}
 use lib.ListN.{length, get_or, set}
+use Rattle.levels.specs.Record.{lent_record}
 use Rattle.cpupri.specs.Level.{level_count}
 use Rattle.cpupri.specs.Found.{lowest_level}
 use Rattle.cpupri.specs.Record.{record_of, masks_of}
@@ -53,10 +54,10 @@ module _ (c : Start) where
 
   abbrev Lent : Machine → Type 0
   Lent m = let a = c.args in
-      Settling m a.prio.now a.cpu.now a.mask.now a.counts.now a.rows.now a.«record».now
+      Settling m a.prio.now a.cpu.now a.mask.now a.counts.now a.rows.now (lent_record a.masks.now a.tallies.now a.words.now a.levels.now)
 
   begins : (m : Machine) → Lent m → c.args.n ≡ m.n → let a = c.args in
-      Choosing m a.n a.prio.now a.cpu.now a.mask.now a.counts.now a.rows.now a.«record».now
+      Choosing m a.n a.prio.now a.cpu.now a.mask.now a.counts.now a.rows.now a.masks.now a.words.now a.levels.now
   begins m s e = to_choose s e
 
   -- it is one that was lent
@@ -69,7 +70,7 @@ module _ (c : Start) where
   -- before the first step
   first : let a = c.args in
       Going lent a.prio.now a.cpu.now a.mask.now a.counts.now a.rows.now a.log.now a.log.now 0
-      a.«record».now (λ (e : Machine). Unit {0})
+      (lent_record a.masks.now a.tallies.now a.words.now a.levels.now) (λ (e : Machine). Unit {0})
   first = going_start given _ tt
 
 -- the lowest level is the machine's
@@ -82,14 +83,14 @@ module _ (c : In-Some) where
   lowest_is : (m : Machine) → let k = c in Lent (goal.at.In-Some k).Start m → k.in-Some.level ≡ lowest_level (masks_of (levels m)) level_count (2 ^ 64 - 1)
   lowest_is m s =
       let k = c in
-      (some_below k.args.«record».now.masks level_count (2 ^ 64 - 1) (sym k.in-Some.ensures)).0 ∙ own_lowest s
+      (some_below k.args.masks.now level_count (2 ^ 64 - 1) (sym k.in-Some.ensures)).0 ∙ own_lowest s
 
 -- ---- in the loop
 
 module _ (c : At-loop-step) where
   going : let a = c.args in let l = c.loop-step in
       Going (lent (goal.at.At-loop-step c).Start) a.prio.now l.cpu a.mask.now l.counts l.rows a.log.now l.log l.steps
-      l.«record» (λ (e : Machine). Told e (Movable c.in-Some.level) l.under)
+      (lent_record l.masks l.tallies l.words l.levels) (λ (e : Machine). Told e (Movable c.in-Some.level) l.under)
   going = let s = (goal.at.At-loop-step c).Start in c.loop-step.invariant (lent s) (given s) (counted s)
 
 -- a step applies
@@ -110,17 +111,17 @@ module _ (c : After-migrate) where
   moved = let k = c in migrate (step (goal.at.After-migrate k).In-Some-next_step) (going (goal.at.After-migrate k).At-loop-step).reached
 
   left : let k = c in let o = k.migrate.new in
-      Held moved k.args.prio.now o.counts o.rows o.«record»
+      Held moved k.args.prio.now o.counts o.rows (lent_record o.masks o.tallies o.words o.levels)
   left =
       let k = c in
       let g = going (goal.at.After-migrate k).At-loop-step in
       k.migrate.ensures.held g.reached (record { well = here (well (goal.at.After-migrate k).Start) g; held = g.held; applies = stepping (goal.at.After-migrate k).In-Some-next_step })
 
-  levels_now : c.migrate.new.«record».levels ≡ levels moved
+  levels_now : c.migrate.new.levels ≡ levels moved
   unfolding record_of
   levels_now = ap (λ (q : Record). q.levels) left.levels
 
-  raised : let k = c in let s = k.in-Some-next_step.step in let x = get_or k.migrate.new.«record».levels s.target 0 in (s.displaced ≤ x) × (x < level_count)
+  raised : let k = c in let s = k.in-Some-next_step.step in let x = get_or k.migrate.new.levels s.target 0 in (s.displaced ≤ x) × (x < level_count)
   raised =
       let k = c in
       let s = k.in-Some-next_step.step in
@@ -145,7 +146,7 @@ lowest_level-requires c = let s = (goal.at.lowest_level-requires c).Start in rec
 
 pub returns-in_default : goal.returns-in_default
 returns-in_default c = λ m s e.
-    let none = none_below c.args.«record».now.masks level_count (2 ^ 64 - 1) (sym c.in_default.ensures) in
+    let none = none_below c.args.masks.now level_count (2 ^ 64 - 1) (sym c.in_default.ensures) in
     none_taken s
     (limited_none m s.well
     (no_level m s.well level_count
@@ -219,11 +220,11 @@ loop-step-preserved c = λ m s e.
 
 pub overflow_cast-lowest : goal.overflow_cast-lowest
 overflow_cast-lowest c =
-    let under = some_under c.args.«record».now.masks level_count (2 ^ 64 - 1) (sym c.in-Some.ensures) in
+    let under = some_under c.args.masks.now level_count (2 ^ 64 - 1) (sym c.in-Some.ensures) in
     omega arith
 
-pub bounds-record-target : goal.bounds-record-target
-bounds-record-target c = small (goal.at.bounds-record-target c).After-migrate
+pub bounds-levels-target : goal.bounds-levels-target
+bounds-levels-target c = small (goal.at.bounds-levels-target c).After-migrate
 
 pub overflow_add-steps : goal.overflow_add-steps
 overflow_add-steps c =

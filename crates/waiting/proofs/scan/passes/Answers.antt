@@ -10,15 +10,10 @@ use lib.ListN.{get_or}
 use Rattle.bits.specs.Bit.{bit}
 use Rattle.cpupri.specs.Level.{level_of}
 use Rattle.std.specs.Prelude.{Option, Some, None}
-use Rattle.std.specs.Option.{option_eq}
-use Rattle.waiting.specs.Wanted.{Asked, names, passing}
+use Rattle.waiting.specs.Wanted.{Asked, names, newly, passing}
 use Rattle.waiting.specs.declared.scan.Test.{Test}
 use Rattle.waiting.specs.declared.scan.Test.TheVariants.{Movable, Drawn}
 use Rattle.waiting.proofs.scan.passes.Goals as goal
-
-names_is : (o : Option ℕ) (u : ℕ) → option_eq eqb o (Some u) ≡ names o u
-names_is None u = refl
-names_is (Some t) u = refl
 
 module _ {test : Test} (under : List ℕ) (u p k : ℕ) (x : ℕ) (own : x ≡ level_of p) where
   by_word : {low : ℕ} → test ≡ Movable low → not (eqb (bit_and (get_or under x 0) k) 0) ≡ passing test under u p k
@@ -43,4 +38,5 @@ returns-in-Movable c =
 pub returns-in-Drawn : goal.returns-in-Drawn
 returns-in-Drawn c =
     let x = c.args in
-    by_draw x.under.now x.task x.priority x.mask c.of_priority-own.result.number c.of_priority-own.ensures c.in-Drawn.is c.eq.result c.test_bit.result (c.eq.ensures ∙ names_is c.in-Drawn.new x.task) c.test_bit.ensures
+    by_draw x.under.now x.task x.priority x.mask c.of_priority-own.result.number c.of_priority-own.ensures c.in-Drawn.is (eqb x.new x.task) c.test_bit.result
+    (c.requires.new_is ∙ ap (λ (q : Test). names (newly q) x.task) c.in-Drawn.is) c.test_bit.ensures

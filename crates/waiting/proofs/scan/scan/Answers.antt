@@ -105,6 +105,7 @@ returns-then-priority-floor c =
 pub passes-requires : goal.passes-requires
 passes-requires c = record {
   asked = c.requires.asked;
+  new_is = c.new_of-new.ensures (get_or c.args.row.now c.loop-at.at 0) (c.requires.searchable.tasks c.loop-at.at c.loop-at-test.true);
   priority_le_highest_priority = c.requires.searchable.high c.loop-at.at c.loop-at-test.true;
 }
 

@@ -2,9 +2,9 @@
 -- Assumes nothing.
 use mathlib.Core.Path.{◌≡◌}
 use lib.Dec.{eqb}
-use lib.ListN.{length, take}
+use lib.ListN.{take}
 use Rattle.whole.specs.Whole.{same}
 use Rattle.whole.proofs.compare.same_u64.Given as goal
 
-abbrev pub invariant-loop-x : goal.invariant-loop-x
-invariant-loop-x l = eqb l.word 0 ≡ same (take (length l.yielded) l.a) (take (length l.yielded) l.b)
+abbrev pub invariant-loop-i : goal.invariant-loop-i
+invariant-loop-i l = eqb l.word 0 ≡ same (take l.i l.a) (take l.i l.b)

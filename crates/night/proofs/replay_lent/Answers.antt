@@ -1,4 +1,4 @@
--- `night::replay` meets its contract: refused by a length, ended by the first record, or replayed on N CPUs.
+-- `night::replay_lent` meets its contract: refused by a length, ended by the first record, or replayed on N CPUs.
 -- Assumes nothing.
 use native.Mathlib.Omega.{arith}
 use mathlib.Core.Path.{◌≡◌, refl, sym, ◌∙◌}
@@ -11,8 +11,8 @@ use Rattle.recording.specs.declared.Opening.{Opening}
 use Rattle.recording.specs.Replay.{run, lent_for64}
 use Rattle.decoding.proofs.Firsts.{opens_fit}
 use Rattle.night.proofs.Replaying.{replay_refused, replay_by, replay_opened, some_cpus, rows_there, rows_part, counts_there, counts_part, flags_there, flags_part, part_fits}
-use Rattle.night.proofs.replay.Goals.{In-Ok, Else-not-lengths_fit, Start}
-use Rattle.night.proofs.replay.Goals as goal
+use Rattle.night.proofs.replay_lent.Goals.{In-Ok, Else-not-lengths_fit, Start}
+use Rattle.night.proofs.replay_lent.Goals as goal
 
 -- what the caller lent
 module _ (c : Start) where
