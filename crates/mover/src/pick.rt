@@ -2,6 +2,7 @@
 // lowest-numbered CPU, and among those the earliest in its row.
 ghost use Rattle.std.specs.Prelude.{◌≡◌, false, suc, ◌≤◌, ◌<◌, get_or};
 ghost use Rattle.rules.specs.Machine.{Machine};
+ghost use Rattle.waiting.specs.Waiting.{FirstWaiting};
 ghost use Rattle.waiting.specs.Wanted.{Asked, Told, meant};
 ghost use Rattle.mover.specs.Foremost.{Looking, BestOf, HigherIn, OnlyAbove, FirstAlone};
 
@@ -19,9 +20,7 @@ pub struct Mover {
     pub priority: u8,
 }
 
-// Of a machine of n CPUs. A row is left at the first task that cannot beat the best so far. `under` has the CPUs below each level; it is
-// read for a test of `Movable` only. (Code of its own: within a replay's the walk along a row had too few registers.)
-#[inline(never)]
+// Of a machine of n CPUs. `under` has the CPUs below each level; it is read for a test of `Movable` only.
 pub fn pick(
     test: Test,
     n: usize,
@@ -36,9 +35,32 @@ pub fn pick(
     ensures { (m : Machine) → Looking m prio.now mask.now counts.now rows.now → Told m test under.now → n ≡ m.n
         → BestOf (meant m test) m n result }
 {
+    let first = first_waiting(counts, n)?;
+    pick_from(first, test, n, prio, mask, rows, counts, under)
+}
+
+// The same where `first` is the first CPU on which a task waits. A row is left at the first task that cannot beat the best so far. (Code of its
+// own: within a replay's the walk along a row had too few registers.)
+#[inline(never)]
+fn pick_from(
+    first: usize,
+    test: Test,
+    n: usize,
+    prio: &[u8],
+    mask: &[u64],
+    rows: &[u16],
+    counts: &[u16],
+    under: &[u64; LEVELS],
+) -> Option<Mover>
+    requires first { FirstWaiting counts.now 0 n first }
+    requires asked { Asked test }
+    requires looking { (m : Machine) × (Looking m prio.now mask.now counts.now rows.now × (n ≡ m.n)) }
+    ensures { (m : Machine) → Looking m prio.now mask.now counts.now rows.now → Told m test under.now → n ≡ m.n
+        → BestOf (meant m test) m n result }
+{
     let mut best = None;
     let mut floor = least(test);
-    let mut next = first_waiting(counts, n);
+    let mut next = Some(first);
     while let Some(cpu) = next {
         if let Some(higher) = higher(test, floor, cpu, prio, mask, rows, counts, under) {
             floor = higher.priority;

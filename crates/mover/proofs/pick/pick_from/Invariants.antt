@@ -1,4 +1,4 @@
--- `mover::pick::pick` meets its contract. The loop's invariant: the best of the rows passed with the priority that is to be beaten, and a task waits on
+-- `mover::pick::pick_from` meets its contract. The loop's invariant: the best of the rows passed with the priority that is to be beaten, and a task waits on
 -- the CPU at hand. Assumes nothing.
 use mathlib.Core.Path.{◌≡◌}
 use Prim.Native.Nat.{◌-◌, ◌≤◌, ◌<◌}
@@ -9,7 +9,7 @@ use Rattle.rules.specs.Machine.{Machine}
 use Rattle.mover.specs.Foremost.{Looking, BestOf}
 use Rattle.waiting.specs.Wanted.{meant, least, Told}
 use Rattle.mover.proofs.Candidates.{floor_of}
-use Rattle.mover.proofs.pick.pick.Given as goal
+use Rattle.mover.proofs.pick.pick_from.Given as goal
 
 abbrev pub invariant-loop-next : goal.invariant-loop-next
 invariant-loop-next l =
